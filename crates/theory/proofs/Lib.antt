@@ -1,0 +1,12 @@
+pub mod Lists
+pub mod Paths
+pub mod Places
+pub mod Level3
+pub mod Decide
+pub mod Steps
+pub mod Cursors
+pub mod States
+pub mod Compare
+pub mod Keys
+pub mod Winners
+pub mod Changes
