@@ -1,0 +1,9 @@
+pub mod All
+pub mod Refusals
+pub mod Ascending
+pub mod Search
+pub mod Walk
+pub mod Buffers
+pub mod Insertion
+pub mod Copying
+pub mod Pool

@@ -1,0 +1,81 @@
+use mathlib.Core.Path.{_≡_, sym, _∙_}
+use Prim.Native.Nat.{_≤_, _-_}
+use native.Mathlib.Numerals.{add-one}
+use native.Mathlib.Omega.{arith}
+use lib.ListN.{length, drop}
+use borrow.Author.Needs.{needs}
+use Rattle.theory.specs.Lists.{compare}
+use Rattle.theory.proofs.Compare.{compare-at-less, compare-at-more, compare-at-same, compare-at-longer, compare-at-shorter, compare-at-end}
+use Rattle.lent.proofs.sets.compare.Statement.{statement}
+use Rattle.lent.proofs.sets.compare.Tie as tie
+
+abbrev Inv-loop : tie.InvT-loop
+Inv-loop a b i₀ i = (i ≤ length a) × (i ≤ length b) × (compare a b ≡ compare (drop i a) (drop i b))
+
+abbrev μ-loop : tie.MeasureT-loop
+μ-loop a b i₀ i = length a - i
+
+loop-holds : tie.Need-loop-holds Inv-loop μ-loop
+loop-holds c = search needs
+
+returns : tie.Need-returns Inv-loop μ-loop
+returns c = let l = c .before .before .loop in sym (l .inv .2 ∙ compare-at-longer _ _ (l .i) (omega arith) (omega arith))
+
+mul-x : tie.Need-mul-x Inv-loop μ-loop
+mul-x c = search needs
+
+shared-slice-read-x : tie.Need-shared-slice-read-x Inv-loop μ-loop
+shared-slice-read-x c = search needs
+
+mul-y : tie.Need-mul-y Inv-loop μ-loop
+mul-y c = search needs
+
+shared-slice-read-y : tie.Need-shared-slice-read-y Inv-loop μ-loop
+shared-slice-read-y c = search needs
+
+returns-2 : tie.Need-returns-2 Inv-loop μ-loop
+returns-2 c =
+    let l = c .before .before .before .before .before .loop in
+    sym (l .inv .2 ∙ compare-at-less _ _ (l .i) (omega arith) (omega arith) (c .if2 .taken))
+
+returns-3 : tie.Need-returns-3 Inv-loop μ-loop
+returns-3 c =
+    let l = c .before .before .before .before .before .before .loop in
+    sym (l .inv .2 ∙ compare-at-more _ _ (l .i) (omega arith) (omega arith) (c .if3 .taken))
+
+add-i : tie.Need-add-i Inv-loop μ-loop
+add-i c = search needs
+
+loop-less : tie.Need-loop-less Inv-loop μ-loop
+loop-less c = search needs
+
+loop-again : tie.Need-loop-again Inv-loop μ-loop
+loop-again c =
+    let l = c .before .before .before .before .before .before .loop in
+    (omega arith, omega arith, rw add-one (l .inv .2 ∙ compare-at-same _ _ (l .i) (omega arith) (omega arith) (omega arith)))
+
+returns-4 : tie.Need-returns-4 Inv-loop μ-loop
+returns-4 c = let l = c .before .before .loop in sym (l .inv .2 ∙ compare-at-shorter _ _ (l .i) (omega arith) (omega arith))
+
+returns-5 : tie.Need-returns-5 Inv-loop μ-loop
+returns-5 c = let l = c .before .before .loop in sym (l .inv .2 ∙ compare-at-end _ _ (l .i) (omega arith) (omega arith))
+
+pub compare-spec : {M : Type 1} → statement M
+compare-spec =
+    tie.close
+    (tie.spec
+    Inv-loop
+    μ-loop
+    loop-holds
+    returns
+    mul-x
+    shared-slice-read-x
+    mul-y
+    shared-slice-read-y
+    returns-2
+    returns-3
+    add-i
+    loop-less
+    loop-again
+    returns-4
+    returns-5)

@@ -1,0 +1,4 @@
+pub mod All
+pub mod Refusals
+pub mod Pool
+pub mod Buffers
