@@ -1,0 +1,12 @@
+-- What the proofs of several functions use, and the theorems.
+pub mod RowLaws
+pub mod CheckLaws
+pub mod WeighLaws
+pub mod Saturation
+pub mod Judging
+pub mod Answers
+pub mod Distinct
+pub mod Agree
+pub mod Fitting
+pub mod Drops
+pub mod Promises

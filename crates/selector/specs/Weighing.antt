@@ -1,0 +1,60 @@
+-- The weight of a selector in lent rows: 01, "Weight, winners, changes". Assumes nothing.
+use mathlib.Core.Path.{_≡_}
+use mathlib.Core.Option.{Option, none, some}
+use mathlib.Core.List.{List, [], _∷_}
+use Prim.Native.Nat.{ℕ, _≤_}
+use lib.ListN.{length}
+use Rattle.theory.specs.Weight.{Counts, total, Weight, weightOf}
+use Rattle.lent.specs.Refusals.{told, answered}
+use Rattle.selector.specs.declared.Specificity.{Specificity}
+use Rattle.selector.specs.declared.Weighing.{Weighing}
+use Rattle.selector.specs.declared.Weighing.the-variants.{Weighs, Refused}
+use Rattle.selector.specs.Tags.{Tags}
+use Rattle.selector.specs.Rows.{stepAt, spread}
+use Rattle.selector.specs.Checks.{selectorVerdict}
+
+abbrev pub isSet : Option ℕ → ℕ
+isSet none = 0
+isSet (some n) = 1
+
+-- "counted from the step's sets"
+unfoldable pub countsOf : Tags → Counts
+countsOf t = record { pseudos = length (t .pseudos); classes = length (t .classes); parts = isSet (t .part); types = isSet (t .type) }
+
+-- of n steps
+unfoldable pub countsIn : List ℕ → ℕ → List Counts
+countsIn steps n = spread (λ k. countsOf (stepAt steps k)) 0 n
+
+-- s is the counts of one step, each at most 8
+pub record Counted (t : Tags) (s : Specificity) : Type 0 where
+  pub pseudos : s .0 ≡ countsOf t .pseudos
+  pub classes : s .1 ≡ countsOf t .classes
+  pub parts : s .2 ≡ countsOf t .parts
+  pub types : s .3 ≡ countsOf t .types
+  pub pseudos-few : s .0 ≤ 8
+  pub classes-few : s .1 ≤ 8
+  pub parts-few : s .2 ≤ 8
+  pub types-few : s .3 ≤ 8
+
+-- s is the counts of n steps, each summed and at most 64: far below the Rust's saturation
+pub record Summed (steps : List ℕ) (n : ℕ) (s : Specificity) : Type 0 where
+  pub pseudos : s .0 ≡ total (λ c. c .pseudos) (countsIn steps n)
+  pub classes : s .1 ≡ total (λ c. c .classes) (countsIn steps n)
+  pub parts : s .2 ≡ total (λ c. c .parts) (countsIn steps n)
+  pub types : s .3 ≡ total (λ c. c .types) (countsIn steps n)
+  pub pseudos-few : s .0 ≤ 64
+  pub classes-few : s .1 ≤ 64
+  pub parts-few : s .2 ≤ 64
+  pub types-few : s .3 ≤ 64
+
+-- The answer as numbers: 0 and the four numbers of the weight; a refusal's own number
+abbrev pub weighingTold : Weighing → List ℕ
+weighingTold (Weighs w) = 0 ∷ w .0 ∷ w .1 ∷ w .2 ∷ w .3 ∷ []
+weighingTold (Refused r) = told r
+
+abbrev pub weightTold : Weight → List ℕ
+weightTold w = 0 ∷ w .first ∷ w .second ∷ w .third ∷ w .fourth ∷ []
+
+unfoldable pub weighingOf : ℕ → List ℕ → ℕ → List ℕ → ℕ → List ℕ
+weighingOf ranking steps n combinators c =
+    answered (selectorVerdict steps n combinators c) (weightTold (weightOf ranking (countsIn steps n)))
