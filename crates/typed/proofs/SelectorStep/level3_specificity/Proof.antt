@@ -1,0 +1,46 @@
+use borrow.Author.Needs.{needs}
+use borrow.Author.Tests.{not-true, not-false}
+use Rattle.typed.proofs.Answers.{tested, weigh-over, weigh-level3}
+use Rattle.typed.proofs.SelectorStep.level3_specificity.Statement.{statement}
+use Rattle.typed.proofs.SelectorStep.level3_specificity.Tie as tie
+
+row-requires : tie.Need-row-requires
+row-requires c κs = search needs
+
+slice-aggregate-row-fits : tie.Need-slice-aggregate-row-fits
+slice-aggregate-row-fits c = search needs
+
+row-fits-requires : tie.Need-row-fits-requires
+row-fits-requires c κs = search needs
+
+returns : tie.Need-returns
+returns c = search (weigh-over, not-true, needs)
+
+slice-aggregate-step-specificity : tie.Need-slice-aggregate-step-specificity
+slice-aggregate-step-specificity c = search needs
+
+step-specificity-requires : tie.Need-step-specificity-requires
+step-specificity-requires c κs = search (tested, needs)
+
+add-t12 : tie.Need-add-t12
+add-t12 c = search needs
+
+add-t13 : tie.Need-add-t13
+add-t13 c = search needs
+
+returns-2 : tie.Need-returns-2
+returns-2 c = search (weigh-level3, not-false, needs)
+
+pub level3-specificity-spec : {M : Type 1} → statement M
+level3-specificity-spec =
+    tie.close
+    (tie.spec
+    row-requires
+    slice-aggregate-row-fits
+    row-fits-requires
+    returns
+    slice-aggregate-step-specificity
+    step-specificity-requires
+    add-t12
+    add-t13
+    returns-2)

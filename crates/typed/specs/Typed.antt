@@ -1,0 +1,224 @@
+-- Subjects and steps by value, with typed numbers, and the rows that they are written to and read from: 01, "Subjects and steps".
+-- Assumes nothing.
+use mathlib.Core.Path.{_≡_}
+use mathlib.Core.Bool.{Bool, cond, _||_, not}
+use mathlib.Core.Option.{Option, none, some}
+use mathlib.Core.List.{List, [], _∷_, _++_}
+use Prim.Native.Nat.{ℕ, _+_}
+use lib.ListN.{length, getD, set, replicate}
+use lib.Dec.{ltb, eqb}
+use Rattle.theory.specs.Lists.{sort}
+use Rattle.theory.specs.Weight.{weightOf}
+use Rattle.lent.specs.Refusals.{told, check, firstOf, answered}
+use Rattle.typed.specs.declared.TypeTag.{TypeTag}
+use Rattle.typed.specs.declared.PartTag.{PartTag}
+use Rattle.typed.specs.declared.ClassId.{ClassId}
+use Rattle.typed.specs.declared.PseudoClassId.{PseudoClassId}
+use Rattle.typed.specs.declared.TypeChoice.{TypeChoice}
+use Rattle.typed.specs.declared.PartChoice.{PartChoice}
+use Rattle.typed.specs.declared.SelectorInputs.{SelectorInputs}
+use Rattle.typed.specs.declared.SelectorInputsOwned.{SelectorInputsOwned}
+use Rattle.typed.specs.declared.SelectorStep.{SelectorStep}
+use Rattle.typed.specs.declared.Verdict.{Verdict}
+use Rattle.typed.specs.declared.Verdict.the-variants.{Accepted, Refused}
+use Rattle.selector.specs.Tags.{Tags, asSets, stepMatches}
+use Rattle.selector.specs.Rows.{tagOf, spread}
+use Rattle.selector.specs.Checks.{tagsAscend}
+use Rattle.selector.specs.Matching.{matchingTold, yesNo}
+use Rattle.selector.specs.Weighing.{isSet, countsOf, weightTold}
+
+-- ---- tags and ids as numbers
+
+abbrev pub typeOf : TypeChoice → Option ℕ
+typeOf TypeChoice.Unset = none
+typeOf (TypeChoice.Set t) = some (t .0)
+
+abbrev pub partOf : PartChoice → Option ℕ
+partOf PartChoice.Unset = none
+partOf (PartChoice.Set t) = some (t .0)
+
+-- the number of id k
+abbrev pub classNumber : List ClassId → ℕ → ℕ
+classNumber ids k = getD ids k (record { 0 = 0 }) .0
+
+abbrev pub pseudoNumber : List PseudoClassId → ℕ → ℕ
+pseudoNumber ids k = getD ids k (record { 0 = 0 }) .0
+
+-- the first n classes and m pseudos
+abbrev pub tagsOf : TypeChoice → PartChoice → List ClassId → ℕ → List PseudoClassId → ℕ → Tags
+tagsOf t p classes n pseudos m = record {
+  type = typeOf t;
+  part = partOf p;
+  classes = spread (classNumber classes) 0 n;
+  pseudos = spread (pseudoNumber pseudos) 0 m;
+}
+
+-- What a subject has
+unfoldable pub inputsTags : SelectorInputs → Tags
+inputsTags x = tagsOf (x .«type_tag») (x .«part_tag») (x .classes) (x .«class_count») (x .pseudos) (x .«pseudo_count»)
+
+-- What a step asks for, as given
+unfoldable pub stepTags : SelectorStep → Tags
+stepTags s = tagsOf (s .«type_tag») (s .«part_tag») (s .«required_classes») (s .«class_count») (s .«required_pseudos») (s .«pseudo_count»)
+
+-- ---- what is made
+
+abbrev pub noClasses : ℕ → List ClassId
+noClasses size = replicate size (record { 0 = 0 })
+
+abbrev pub noPseudos : ℕ → List PseudoClassId
+noPseudos size = replicate size (record { 0 = 0 })
+
+abbrev pub inputsOf : TypeChoice → PartChoice → List ClassId → ℕ → List PseudoClassId → ℕ → SelectorInputs
+inputsOf t p classes n pseudos m = record {
+  «type_tag» = t;
+  «part_tag» = p;
+  classes = classes;
+  «class_count» = n;
+  pseudos = pseudos;
+  «pseudo_count» = m;
+}
+
+-- a subject with tags alone; without those, "`SelectorInputs::EMPTY` is the subject without tags or identifiers."
+abbrev pub tagged : TypeChoice → PartChoice → SelectorInputs
+tagged t p = inputsOf t p (noClasses 16) 0 (noPseudos 16) 0
+
+abbrev pub stepOf : TypeChoice → PartChoice → List ClassId → ℕ → List PseudoClassId → ℕ → SelectorStep
+stepOf t p classes n pseudos m = record {
+  «type_tag» = t;
+  «part_tag» = p;
+  «required_classes» = classes;
+  «class_count» = n;
+  «required_pseudos» = pseudos;
+  «pseudo_count» = m;
+}
+
+-- a step that asks for tags alone
+abbrev pub asking : TypeChoice → PartChoice → SelectorStep
+asking t p = stepOf t p (noClasses 8) 0 (noPseudos 8) 0
+
+abbrev pub askingType : SelectorStep → TypeTag → SelectorStep
+askingType s t = stepOf (TypeChoice.Set t) (s .«part_tag») (s .«required_classes») (s .«class_count») (s .«required_pseudos») (s .«pseudo_count»)
+
+abbrev pub askingPart : SelectorStep → PartTag → SelectorStep
+askingPart s p = stepOf (s .«type_tag») (PartChoice.Set p) (s .«required_classes») (s .«class_count») (s .«required_pseudos») (s .«pseudo_count»)
+
+-- One id more, after n. There is room for 8: the count of a ninth is 9 and stays, so that the step is refused wherever it is used
+abbrev pub added : {A : Type 0} → List A → ℕ → A → List A
+added ids n id = cond (ltb n 8) (set ids n id) ids
+
+abbrev pub raised : ℕ → ℕ
+raised n = cond (ltb n 8) (n + 1) 9
+
+abbrev pub askingClass : SelectorStep → ClassId → SelectorStep
+askingClass s c =
+    stepOf (s .«type_tag») (s .«part_tag») (added (s .«required_classes») (s .«class_count») c) (raised (s .«class_count»)) (s .«required_pseudos») (s .«pseudo_count»)
+
+abbrev pub askingPseudo : SelectorStep → PseudoClassId → SelectorStep
+askingPseudo s c =
+    stepOf (s .«type_tag») (s .«part_tag») (s .«required_classes») (s .«class_count») (added (s .«required_pseudos») (s .«pseudo_count») c) (raised (s .«pseudo_count»))
+
+-- ---- rows
+
+abbrev pub tagNumber : Option ℕ → ℕ
+tagNumber none = 0
+tagNumber (some n) = n
+
+-- A row: type flag, type, part flag, part, class count, pseudo count, then `size` classes and `size` pseudos
+abbrev pub rowWith : ℕ → ℕ → ℕ → ℕ → ℕ → ℕ → ℕ → (ℕ → ℕ) → (ℕ → ℕ) → List ℕ
+rowWith size tf t pf p n m class pseudo = tf ∷ t ∷ pf ∷ p ∷ n ∷ m ∷ (spread class 0 size ++ spread pseudo 0 size)
+
+-- A tag that isn't set is written as 0 and 0
+abbrev pub rowOf : ℕ → Option ℕ → Option ℕ → ℕ → ℕ → (ℕ → ℕ) → (ℕ → ℕ) → List ℕ
+rowOf size t p = rowWith size (isSet t) (tagNumber t) (isSet p) (tagNumber p)
+
+abbrev pub inputsRow : SelectorInputs → List ℕ
+inputsRow x =
+    rowOf 16 (typeOf (x .«type_tag»)) (partOf (x .«part_tag»)) (x .«class_count») (x .«pseudo_count») (classNumber (x .classes)) (pseudoNumber (x .pseudos))
+
+abbrev pub stepRow : SelectorStep → List ℕ
+stepRow s =
+    rowOf 8 (typeOf (s .«type_tag»)) (partOf (s .«part_tag»)) (s .«class_count») (s .«pseudo_count») (classNumber (s .«required_classes»)) (pseudoNumber (s .«required_pseudos»))
+
+-- A subject row without tags, of two lists of ids, 0 past them
+abbrev pub idsRow : List ℕ → List ℕ → List ℕ
+idsRow classes pseudos = rowWith 16 0 0 0 0 (length classes) (length pseudos) (λ k. getD classes k 0) (λ k. getD pseudos k 0)
+
+abbrev pub typeFrom : Option ℕ → TypeChoice
+typeFrom none = TypeChoice.Unset
+typeFrom (some n) = TypeChoice.Set (record { 0 = n })
+
+abbrev pub partFrom : Option ℕ → PartChoice
+partFrom none = PartChoice.Unset
+partFrom (some n) = PartChoice.Set (record { 0 = n })
+
+-- the ids with the numbers of `size` words from `at` on
+abbrev pub classesFrom : ℕ → List ℕ → ℕ → List ClassId
+classesFrom size words at = spread (λ k. record { 0 = getD words k 0 }) at size
+
+abbrev pub pseudosFrom : ℕ → List ℕ → ℕ → List PseudoClassId
+pseudosFrom size words at = spread (λ k. record { 0 = getD words k 0 }) at size
+
+-- What a row's words say; a word past the end is 0
+abbrev pub inputsWith : TypeChoice → PartChoice → List ℕ → SelectorInputs
+inputsWith t p row = inputsOf t p (classesFrom 16 row 6) (getD row 4 0) (pseudosFrom 16 row 22) (getD row 5 0)
+
+abbrev pub stepWith : TypeChoice → PartChoice → List ℕ → SelectorStep
+stepWith t p row = stepOf t p (classesFrom 8 row 6) (getD row 4 0) (pseudosFrom 8 row 14) (getD row 5 0)
+
+abbrev pub rowType : List ℕ → TypeChoice
+rowType row = typeFrom (tagOf (getD row 0 0) (getD row 1 0))
+
+abbrev pub rowPart : List ℕ → PartChoice
+rowPart row = partFrom (tagOf (getD row 2 0) (getD row 3 0))
+
+abbrev pub inputsFrom : List ℕ → SelectorInputs
+inputsFrom row = inputsWith (rowType row) (rowPart row) row
+
+abbrev pub stepFrom : List ℕ → SelectorStep
+stepFrom row = stepWith (rowType row) (rowPart row) row
+
+-- ---- answers and refusals
+
+-- "a count is over its size"
+abbrev pub over : ℕ → ℕ → ℕ → Bool
+over size n m = ltb size n || ltb size m
+
+-- An owned subject: 2
+unfoldable pub ownedVerdict : ℕ → ℕ → ℕ
+ownedVerdict n m = firstOf (check 2 (over 16 n m) ∷ [])
+
+-- The answer as numbers: 0, or a refusal's own number
+abbrev pub verdictTold : Verdict → List ℕ
+verdictTold Accepted = 0 ∷ []
+verdictTold (Refused r) = told r
+
+-- the ids of two lists, 0 past them
+abbrev pub ownedOf : TypeChoice → PartChoice → List ℕ → List ℕ → SelectorInputs
+ownedOf t p classes pseudos = inputsOf t p (classesFrom 16 classes 0) (length classes) (pseudosFrom 16 pseudos 0) (length pseudos)
+
+-- "they are sorted and made unique, as are an owned subject's"; the empty subject where it is refused
+unfoldable pub ownedInputs : TypeChoice → PartChoice → List ClassId → ℕ → List PseudoClassId → ℕ → SelectorInputs
+ownedInputs t p classes n pseudos m =
+    cond (eqb (ownedVerdict n m) 0)
+    (ownedOf t p (sort (spread (classNumber classes) 0 n)) (sort (spread (pseudoNumber pseudos) 0 m)))
+    (tagged TypeChoice.Unset PartChoice.Unset)
+
+-- r is the owned subject, or its refusal
+pub record Owned (t : TypeChoice) (p : PartChoice) (classes : List ClassId) (n : ℕ) (pseudos : List PseudoClassId) (m : ℕ) (r : SelectorInputsOwned) : Type 0 where
+  pub verdict : verdictTold (r .verdict) ≡ answered (ownedVerdict n m) (0 ∷ [])
+  pub inputs : r .inputs ≡ ownedInputs t p classes n pseudos m
+
+-- Matching a step: 2 (step, then subject), 1
+unfoldable pub stepVerdict : SelectorStep → SelectorInputs → ℕ
+stepVerdict s x =
+    firstOf (check 2 (over 8 (s .«class_count») (s .«pseudo_count»)) ∷ check 2 (over 16 (x .«class_count») (x .«pseudo_count»)) ∷ check 1 (not (tagsAscend (inputsTags x))) ∷ [])
+
+-- "A step's required ids may come in any order and repeated; they are sorted and made unique"
+unfoldable pub stepMatching : SelectorStep → SelectorInputs → List ℕ
+stepMatching s x = answered (stepVerdict s x) (matchingTold (yesNo (stepMatches (asSets (stepTags s)) (inputsTags x))))
+
+-- Weighing a step: 2
+unfoldable pub stepWeighing : ℕ → SelectorStep → List ℕ
+stepWeighing ranking s =
+    answered (firstOf (check 2 (over 8 (s .«class_count») (s .«pseudo_count»)) ∷ [])) (weightTold (weightOf ranking (countsOf (asSets (stepTags s)) ∷ [])))
