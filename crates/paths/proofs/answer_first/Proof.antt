@@ -1,0 +1,24 @@
+-- `paths::answer_first` meets its contract. Assumes nothing.
+use mathlib.Core.Path.{sym}
+use native.Mathlib.Omega.{arith}
+use lib.ListN.{length-take}
+use lib.Seq.{length-take-le}
+use borrow.Author.Needs.{needs}
+use Rattle.paths.proofs.answer_first.Statement.{statement}
+use Rattle.paths.proofs.answer_first.Tie as tie
+
+slice-aggregate-answer-whole : tie.Need-slice-aggregate-answer-whole
+slice-aggregate-answer-whole c = sym (length-take-le _ _ (omega arith))
+
+answer-whole-requires : tie.Need-answer-whole-requires
+answer-whole-requires c κs = search needs
+
+same-length : tie.Need-same-length
+same-length c = search needs
+
+returns : tie.Need-returns
+returns c = omega (arith, simp length-take at (c .before .before .answer-whole .ensures))
+
+pub answer-first-spec : {M : Type 1} → statement M
+answer-first-spec =
+    tie.close (tie.spec slice-aggregate-answer-whole answer-whole-requires same-length returns)
