@@ -1,0 +1,320 @@
+//! Comparing a command with the judge, batch by batch or file by file.
+
+use std::io::{IsTerminal, stderr};
+use std::slice;
+use std::time::{Duration, Instant};
+
+use crate::batches::{Batch, Form};
+use crate::records::{pieces, read};
+use crate::run::{Output, run};
+use crate::shrink::{drop_some, lower};
+use crate::walk::walk;
+
+/// How often the command is run to make a difference small, and for how long.
+const MOST_RUNS: usize = 2000;
+const LONGEST_SEARCH: Duration = Duration::from_secs(60);
+
+/// What is left of the search for something smaller.
+struct Search {
+    begin: Instant,
+    runs: usize,
+}
+
+impl Search {
+    fn new() -> Self {
+        Self {
+            begin: Instant::now(),
+            runs: 0,
+        }
+    }
+
+    /// Counts one more run, if there may be one.
+    fn may_go_on(&mut self) -> bool {
+        self.runs += 1;
+        !self.cut_off()
+    }
+
+    fn cut_off(&self) -> bool {
+        self.runs > MOST_RUNS || self.begin.elapsed() > LONGEST_SEARCH
+    }
+
+    fn told(&self) -> &'static str {
+        if self.cut_off() {
+            "made smaller (there may be a smaller one still)"
+        } else {
+            "made small"
+        }
+    }
+}
+
+/// A difference, told in full; or nothing.
+pub type Difference = Option<String>;
+
+/// Progress for somebody who watches, and for nobody else.
+struct Progress {
+    shown: bool,
+    what: &'static str,
+}
+
+impl Progress {
+    fn new(what: &'static str) -> Self {
+        Self {
+            shown: stderr().is_terminal(),
+            what,
+        }
+    }
+
+    fn say(&self, done: usize, of: usize) {
+        if self.shown {
+            eprint!("\rcompared {done} of {of} {}", self.what);
+            if done == of {
+                eprintln!();
+            }
+        }
+    }
+
+    fn shrinking(&self) {
+        if self.shown {
+            eprintln!("\na difference: making it smaller");
+        }
+    }
+}
+
+/// The first line in which two texts differ: its number, and both lines.
+struct Line {
+    number: usize,
+    expected: String,
+    actual: String,
+}
+
+fn first_difference(expected: &[u8], output: &Output) -> Option<Line> {
+    if expected == output.bytes && !output.crashed {
+        return None;
+    }
+    let expected: Vec<&[u8]> = expected.split_inclusive(|&byte| byte == b'\n').collect();
+    let actual: Vec<&[u8]> = output
+        .bytes
+        .split_inclusive(|&byte| byte == b'\n')
+        .collect();
+    let longer = expected.len().max(actual.len());
+    let number = (0..longer).find(|&number| expected.get(number) != actual.get(number));
+    let shown = |lines: &[&[u8]], number: usize| match lines.get(number) {
+        Some(line) if line.ends_with(b"\n") => {
+            String::from_utf8_lossy(&line[..line.len() - 1]).into_owned()
+        }
+        Some(line) => format!("{} (no end of line)", String::from_utf8_lossy(line)),
+        None => "(nothing)".to_string(),
+    };
+    // Every line may be right, and only the end of the command not.
+    let number = number.unwrap_or(longer);
+    let mut actual = shown(&actual, number);
+    if let Some(trouble) = &output.trouble {
+        actual += &format!(" (and the command ended with {trouble})");
+    }
+    Some(Line {
+        number,
+        expected: shown(&expected, number),
+        actual,
+    })
+}
+
+/// A difference in a batch.
+struct Found {
+    /// The number of the case it is in; that of the tail is the number of
+    /// whole cases, or more if the tail holds some.
+    case: usize,
+    /// The lines of that case, or what is left of them at the end.
+    expected: String,
+    /// As many lines of the command, or what it printed from there on.
+    actual: String,
+}
+
+/// What is printed after the lines of a case that differs, at the most.
+const LINES_TOLD: usize = 6;
+
+fn batch_difference<T: Form>(batch: &Batch<T>, command: &str) -> Result<Option<Found>, String> {
+    let bytes = batch.bytes();
+    let answers = T::answers(&bytes);
+    let output = run(command, &bytes)?;
+    let Some(line) = first_difference(answers.concat().as_bytes(), &output) else {
+        return Ok(None);
+    };
+    let mut case = 0;
+    let mut begin = 0;
+    while let Some(answer) = answers.get(case)
+        && begin + answer.lines().count() <= line.number
+    {
+        begin += answer.lines().count();
+        case += 1;
+    }
+    let actual = String::from_utf8_lossy(&output.bytes);
+    let mut actual = told_lines(actual.lines().skip(begin));
+    if let Some(trouble) = &output.trouble {
+        actual += &format!("  (and the command ended with {trouble})\n");
+    }
+    Ok(Some(Found {
+        case,
+        expected: told_lines(answers[case..].iter().flat_map(|answer| answer.lines())),
+        actual,
+    }))
+}
+
+/// The first of some lines, each on its own line.
+fn told_lines<'a>(mut lines: impl Iterator<Item = &'a str>) -> String {
+    let mut told: String = lines
+        .by_ref()
+        .take(LINES_TOLD)
+        .map(|line| format!("  {line:.400}\n"))
+        .collect();
+    if told.is_empty() {
+        told += "  (nothing)\n";
+    }
+    match lines.count() {
+        0 => told,
+        more => told + &format!("  (and {more} more lines)\n"),
+    }
+}
+
+/// Compares a command's answers to batches of `count` cases with the judge's.
+pub fn compare_cases<T: Form>(
+    what: &'static str,
+    command: &str,
+    seed: u64,
+    count: usize,
+    batches: impl Iterator<Item = Batch<T>>,
+) -> Result<Difference, String> {
+    let progress = Progress::new("cases");
+    let mut done = 0;
+    for batch in batches {
+        let in_batch = batch.cases.len();
+        if let Some(found) = batch_difference(&batch, command)? {
+            progress.shrinking();
+            let told = tell_batch(what, command, seed, done, batch, found)?;
+            return Ok(Some(told));
+        }
+        done += in_batch;
+        progress.say(done, count);
+    }
+    Ok(None)
+}
+
+/// Makes a batch that differs small, and tells of it.
+fn tell_batch<T: Form>(
+    what: &str,
+    command: &str,
+    seed: u64,
+    done: usize,
+    batch: Batch<T>,
+    found: Found,
+) -> Result<String, String> {
+    let mut search = Search::new();
+    let mut differs = |batch: &Batch<T>| -> Result<bool, String> {
+        Ok(search.may_go_on() && batch_difference(batch, command)?.is_some())
+    };
+    let place = match batch.cases.get(found.case) {
+        Some(_) => format!("case {}", done + found.case),
+        None => format!(
+            "the end of the batch after case {}",
+            done + batch.cases.len()
+        ),
+    };
+    let mut small = batch;
+    // Mostly the one case, or the end of the batch, shows it alone.
+    let alone = match small.cases.get(found.case) {
+        Some(case) => Batch::new(slice::from_ref(case), &[]),
+        None => Batch::new(&[], &small.tail),
+    };
+    if differs(&alone)? {
+        small = alone;
+    }
+    let mut cases = small.cases;
+    let tail = drop_some(small.tail, &mut |tail| differs(&Batch::new(&cases, tail)))?;
+    cases = drop_some(cases, &mut |cases| differs(&Batch::new(cases, &tail)))?;
+    for place in 0..cases.len() {
+        let others = cases.clone();
+        cases[place] = others[place].clone().shrink(&mut |case| {
+            let mut tried = others.clone();
+            tried[place] = case.clone();
+            differs(&Batch::new(&tried, &tail))
+        })?;
+    }
+    let tail = lower(tail, &mut |tail| differs(&Batch::new(&cases, tail)))?;
+
+    let found = batch_difference(&Batch::new(&cases, &tail), command)?.unwrap_or(found);
+    let how = search.told();
+    let mut told = format!("a difference in {what}, seed {seed}, {place}; {how}:\n");
+    for case in &cases {
+        told += &format!("{}\n", case.told());
+    }
+    if !tail.is_empty() {
+        told += &format!("at the end, bytes:{}\n", hex(&tail));
+    }
+    if cases.is_empty() && tail.is_empty() {
+        told += "the empty input\n";
+    }
+    if cases.len() > 1 {
+        told += &format!("differing from case {} of these on\n", found.case);
+    }
+    told += &format!("expected:\n{}actual:\n{}", found.expected, found.actual);
+    Ok(told)
+}
+
+fn hex(bytes: &[u8]) -> String {
+    bytes.iter().map(|byte| format!(" {byte:02x}")).collect()
+}
+
+/// Compares a command's output for each house-record file with the judge's.
+pub fn compare_files(
+    command: &str,
+    seed: u64,
+    count: usize,
+    files: impl Iterator<Item = Vec<u8>>,
+) -> Result<Difference, String> {
+    let progress = Progress::new("files");
+    for (number, file) in files.enumerate() {
+        if let Some(line) = file_difference(command, &file)? {
+            progress.shrinking();
+            return tell_file(command, seed, number, file, line).map(Some);
+        }
+        progress.say(number + 1, count);
+    }
+    Ok(None)
+}
+
+fn file_difference(command: &str, file: &[u8]) -> Result<Option<Line>, String> {
+    let output = run(command, file)?;
+    Ok(first_difference(walk(file).as_bytes(), &output))
+}
+
+/// Makes a file that differs small, and tells of it.
+fn tell_file(
+    command: &str,
+    seed: u64,
+    number: usize,
+    file: Vec<u8>,
+    line: Line,
+) -> Result<String, String> {
+    let mut search = Search::new();
+    let mut differs = |file: &[u8]| -> Result<bool, String> {
+        Ok(search.may_go_on() && file_difference(command, file)?.is_some())
+    };
+    let small = drop_some(pieces(&file), &mut |pieces| differs(&pieces.concat()))?.concat();
+    let small = drop_some(small, &mut |bytes| differs(bytes))?;
+    let small = lower(small, &mut |bytes| differs(bytes))?;
+
+    let line = file_difference(command, &small)?.unwrap_or(line);
+    let how = search.told();
+    let mut told = format!("a difference in files, seed {seed}, file {number}; {how}:\n");
+    told += &format!("bytes:{}\n", hex(&small));
+    let mut offset = 0;
+    for piece in pieces(&small) {
+        match read(piece) {
+            Some((record, _)) => told += &format!("at {offset}: {record:?}\n"),
+            None => told += &format!("at {offset}: no record\n"),
+        }
+        offset += piece.len();
+    }
+    told += &format!("in line {} of the output\n", line.number);
+    told += &format!("expected: {}\nactual:   {}\n", line.expected, line.actual);
+    Ok(told)
+}

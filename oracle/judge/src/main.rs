@@ -1,0 +1,200 @@
+//! A judge for document 01: it answers cases from the published code, makes
+//! cases from a seed, and compares a command's answers with its own.
+
+mod asking;
+mod batches;
+mod compare;
+mod generate;
+mod lists;
+mod options;
+mod paths;
+mod records;
+mod run;
+mod sheet;
+mod shrink;
+#[cfg(test)]
+mod tests;
+mod walk;
+mod words;
+
+use std::fs;
+use std::io::{self, Read, Write};
+use std::path::Path;
+use std::process::ExitCode;
+
+use batches::{Batch, Form, list_batches, path_batches};
+use compare::{compare_cases, compare_files};
+use options::{Options, What};
+use paths::PathCase;
+use words::Case;
+
+const HELP: &str = "\
+judge: answers test cases from the published code
+
+  judge answer < BATCH
+      one line for each case of a batch of lists
+  judge paths < INPUT
+      what `paths` has to print for a stream of path cases
+  judge walk < FILE
+      what `walk` has to print for a file of house records
+  judge make lists|paths --seed N --count N
+      writes N cases to standard output, one after another
+  judge make files --seed N --count N --into DIR
+      writes N files of house records into DIR
+  judge compare lists|paths --run COMMAND --seed N --count N
+      gives N cases, in batches of at most 256 KiB (lists) or 1 MiB (paths),
+      to a shell command on its standard input and compares its output with
+      the judge's; some batches end inside a case or in a wrong one
+  judge compare files --run COMMAND --seed N --count N
+      gives N files of house records to a shell command, one a run, and
+      compares its output with the judge's byte for byte
+  judge store lists|paths --seed N --count N --cases FILE --answers FILE
+      writes N cases and the judge's answers to them
+  judge --help
+      this text
+
+A seed always gives the same cases. With a count of at least twice as many as
+there are fixed cases (edges, and all small ones) every one of those is among
+them; 20,000 is enough for any. What is made or stored are whole cases only.
+
+Status: 0 all equal or done; 1 a difference, told on standard output, made as
+small as it goes; 2 wrong usage, or something could not be read, written or run.
+";
+
+fn main() -> ExitCode {
+    let arguments: Vec<String> = std::env::args().skip(1).collect();
+    match obey(&arguments) {
+        Ok(status) => status,
+        Err(trouble) => {
+            eprintln!("judge: {trouble}");
+            ExitCode::from(2)
+        }
+    }
+}
+
+fn obey(arguments: &[String]) -> Result<ExitCode, String> {
+    let words: Vec<&str> = arguments.iter().map(String::as_str).collect();
+    match words[..] {
+        ["--help" | "-h" | "help"] => write(HELP.as_bytes())?,
+        ["answer"] => write(Case::answers(&input()?).concat().as_bytes())?,
+        ["paths"] => write(PathCase::answers(&input()?).concat().as_bytes())?,
+        ["walk"] => write(walk::walk(&input()?).as_bytes())?,
+        ["make", what, ..] => make(What::named(what)?, &words[2..])?,
+        ["compare", what, ..] => return compare(What::named(what)?, &words[2..]),
+        ["store", what, ..] => store(What::named(what)?, &words[2..])?,
+        [] => return Err("no command; see `judge --help`".to_string()),
+        [other, ..] => {
+            return Err(format!(
+                "`{other}` with these words is no command; see `judge --help`"
+            ));
+        }
+    }
+    Ok(ExitCode::SUCCESS)
+}
+
+fn input() -> Result<Vec<u8>, String> {
+    let mut bytes = Vec::new();
+    match io::stdin().read_to_end(&mut bytes) {
+        Ok(_) => Ok(bytes),
+        Err(error) => Err(format!("could not read standard input: {error}")),
+    }
+}
+
+fn write(bytes: &[u8]) -> Result<(), String> {
+    let mut out = io::stdout().lock();
+    let written = out.write_all(bytes).and_then(|()| out.flush());
+    written.map_err(|error| format!("could not write to standard output: {error}"))
+}
+
+fn write_file(path: &Path, bytes: &[u8]) -> Result<(), String> {
+    fs::write(path, bytes).map_err(|error| format!("could not write {}: {error}", path.display()))
+}
+
+fn lists(seed: u64, count: usize) -> impl Iterator<Item = Case> {
+    use generate::{lists, stream};
+    stream(lists::fixed(), lists::random_case, seed, count)
+}
+
+fn paths(seed: u64, count: usize) -> impl Iterator<Item = PathCase> {
+    use generate::{paths, stream};
+    stream(paths::fixed(), paths::random_case, seed, count)
+}
+
+/// Bytes of whole cases, and what is to be printed for them, case by case.
+struct Made {
+    bytes: Vec<u8>,
+    answers: fn(&[u8]) -> Vec<String>,
+}
+
+impl Made {
+    fn of<T: Form>(cases: impl Iterator<Item = T>) -> Self {
+        let cases: Vec<T> = cases.collect();
+        Self {
+            bytes: Batch::new(&cases, &[]).bytes(),
+            answers: T::answers,
+        }
+    }
+
+    fn new(what: What, seed: u64, count: usize) -> Result<Self, String> {
+        match what {
+            What::Lists => Ok(Self::of(lists(seed, count))),
+            What::Paths => Ok(Self::of(paths(seed, count))),
+            What::Files => Err("files are not cases of a batch".to_string()),
+        }
+    }
+}
+
+fn files(seed: u64, count: usize) -> impl Iterator<Item = Vec<u8>> {
+    use generate::{files, stream};
+    stream(files::fixed(), files::random_file, seed, count)
+}
+
+fn make(what: What, words: &[&str]) -> Result<(), String> {
+    if what == What::Files {
+        let options = Options::read(words, &["--seed", "--count", "--into"])?;
+        let (seed, count) = (options.seed()?, options.count()?);
+        let into = Path::new(options.text("--into")?);
+        fs::create_dir_all(into)
+            .map_err(|error| format!("could not make {}: {error}", into.display()))?;
+        for (number, file) in files(seed, count).enumerate() {
+            write_file(&into.join(format!("{number:06}.house")), &file)?;
+        }
+        return Ok(());
+    }
+    let options = Options::read(words, &["--seed", "--count"])?;
+    write(&Made::new(what, options.seed()?, options.count()?)?.bytes)
+}
+
+fn store(what: What, words: &[&str]) -> Result<(), String> {
+    let options = Options::read(words, &["--seed", "--count", "--cases", "--answers"])?;
+    let made = Made::new(what, options.seed()?, options.count()?)?;
+    write_file(Path::new(options.text("--cases")?), &made.bytes)?;
+    let answers = (made.answers)(&made.bytes).concat();
+    write_file(Path::new(options.text("--answers")?), answers.as_bytes())
+}
+
+fn compare(what: What, words: &[&str]) -> Result<ExitCode, String> {
+    let options = Options::read(words, &["--run", "--seed", "--count"])?;
+    let command = options.text("--run")?;
+    let (seed, count) = (options.seed()?, options.count()?);
+    let name = what.name();
+    let difference = match what {
+        What::Lists => {
+            let batches = list_batches(lists(seed, count), seed);
+            compare_cases(name, command, seed, count, batches)?
+        }
+        What::Paths => {
+            let batches = path_batches(paths(seed, count), seed);
+            compare_cases(name, command, seed, count, batches)?
+        }
+        What::Files => compare_files(command, seed, count, files(seed, count))?,
+    };
+    let told = match what {
+        What::Files => format!("compared {count} files: no difference\n"),
+        _ => format!("compared {count} cases of {name}: no difference\n"),
+    };
+    match difference {
+        None => write(told.as_bytes()).map(|()| ExitCode::SUCCESS),
+        Some(difference) => write(difference.as_bytes()).map(|()| ExitCode::from(1)),
+    }
+}

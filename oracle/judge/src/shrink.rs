@@ -1,0 +1,213 @@
+//! Making an input that shows a difference as small as it goes.
+//!
+//! Everything here tries something smaller and keeps it if the difference is
+//! still there. `still` answers that, and runs the command.
+
+use crate::paths::{PathCase, ROW_HEAD, STEP_IDS, SUBJECT_IDS};
+use crate::words::{Case, split};
+
+/// Whether an input still shows the difference; an error if that cannot be
+/// found out.
+pub type Still<'a, T> = &'a mut dyn FnMut(&T) -> Result<bool, String>;
+
+/// Leaves out runs of elements: all, halves, quarters, down to single ones.
+pub fn drop_some<T: Clone>(list: Vec<T>, still: Still<'_, Vec<T>>) -> Result<Vec<T>, String> {
+    let mut list = list;
+    let mut size = list.len();
+    while size > 0 {
+        let mut start = 0;
+        while start < list.len() {
+            let end = list.len().min(start + size);
+            let mut shorter = list[..start].to_vec();
+            shorter.extend_from_slice(&list[end..]);
+            if still(&shorter)? {
+                list = shorter;
+            } else {
+                start = end;
+            }
+        }
+        size /= 2;
+    }
+    Ok(list)
+}
+
+/// Lowers each number: to nothing if that will do, else bit by bit.
+pub fn lower<T>(list: Vec<T>, still: Still<'_, Vec<T>>) -> Result<Vec<T>, String>
+where
+    T: Copy + Into<u64> + TryFrom<u64>,
+{
+    let mut list = list;
+    for place in 0..list.len() {
+        let from: u64 = list[place].into();
+        let smaller = [0, 1, from / 2, from.saturating_sub(1)];
+        for number in smaller.into_iter().filter(|&number| number < from) {
+            let Ok(number) = T::try_from(number) else {
+                continue;
+            };
+            let mut lowered = list.clone();
+            lowered[place] = number;
+            if still(&lowered)? {
+                list = lowered;
+                break;
+            }
+        }
+    }
+    Ok(list)
+}
+
+/// The smallest case of lists found: its lists first, then its words.
+pub fn shrink_case(case: Case, still: Still<'_, Case>) -> Result<Case, String> {
+    let kind = case.kind;
+    let mut case = case;
+    loop {
+        let before = case.clone();
+        if matches!(kind, 2 | 5) {
+            case = shrink_lists(case, still)?;
+        }
+        let mut words = |body: &Vec<u32>| still(&Case::new(kind, body.clone()));
+        let body = drop_some(case.body, &mut words)?;
+        case = Case::new(kind, lower(body, &mut words)?);
+        if case == before {
+            return Ok(case);
+        }
+    }
+}
+
+/// Shortens both lists of a case, with the first one's count in step.
+fn shrink_lists(case: Case, still: Still<'_, Case>) -> Result<Case, String> {
+    let lists = case.body.split_first();
+    let Some((left, right)) = lists.and_then(|(&count, rest)| split(rest, count)) else {
+        return Ok(case);
+    };
+    let made = |left: &[u32], right: &[u32]| {
+        let mut body = vec![left.len() as u32];
+        body.extend(left);
+        body.extend(right);
+        Case::new(case.kind, body)
+    };
+    let left = drop_some(left.to_vec(), &mut |left| still(&made(left, right)))?;
+    let right = drop_some(right.to_vec(), &mut |right| still(&made(&left, right)))?;
+    Ok(made(&left, &right))
+}
+
+/// The smallest case of paths found: its rows first, then its combinators,
+/// then the ids in its rows, then its counts and words.
+pub fn shrink_path(case: PathCase, still: Still<'_, PathCase>) -> Result<PathCase, String> {
+    let mut case = case;
+    loop {
+        let before = case.clone();
+        case = shrink_rows(case, still)?;
+        case = shrink_ids(case, still)?;
+        let base = case.clone();
+        let words: Vec<u32> = changeable(&mut case)
+            .into_iter()
+            .map(|word| *word)
+            .collect();
+        let with = |words: &Vec<u32>| {
+            let mut case = base.clone();
+            for (word, &new) in changeable(&mut case).into_iter().zip(words) {
+                *word = new;
+            }
+            case
+        };
+        let words = lower(words, &mut |words| still(&with(words)))?;
+        case = with(&words);
+        if case == before {
+            return Ok(case);
+        }
+    }
+}
+
+/// All words of a case but the numbers of what is lent.
+pub fn changeable(case: &mut PathCase) -> Vec<&mut u32> {
+    let mut words = vec![&mut case.steps, &mut case.combinators, &mut case.places];
+    words.extend(&mut case.codes);
+    words.extend(case.step_rows.as_flattened_mut());
+    words.extend(case.subject_rows.as_flattened_mut());
+    words
+}
+
+/// Leaves out subjects, then steps (each with the combinator before it), then
+/// combinators alone. A count falls with what it counts, and with nothing
+/// else.
+fn shrink_rows(case: PathCase, still: Still<'_, PathCase>) -> Result<PathCase, String> {
+    let base = case;
+    let with_subjects = |kept: &Vec<usize>| PathCase {
+        places: fewer(base.places, base.subject_rows.len(), kept),
+        subject_rows: kept_of(&base.subject_rows, kept),
+        ..base.clone()
+    };
+    let all = (0..base.subject_rows.len()).collect();
+    let kept = drop_some(all, &mut |kept| still(&with_subjects(kept)))?;
+    let base = with_subjects(&kept);
+
+    let with_steps = |kept: &Vec<usize>| {
+        let between = kept.iter().skip(1).map(|step| step - 1);
+        let past = base.step_rows.len().saturating_sub(1)..base.codes.len();
+        let codes = between.chain(past).filter(|&code| code < base.codes.len());
+        let codes: Vec<usize> = codes.collect();
+        PathCase {
+            steps: fewer(base.steps, base.step_rows.len(), kept),
+            step_rows: kept_of(&base.step_rows, kept),
+            combinators: fewer(base.combinators, base.codes.len(), &codes),
+            codes: kept_of(&base.codes, &codes),
+            ..base.clone()
+        }
+    };
+    let all = (0..base.step_rows.len()).collect();
+    let kept = drop_some(all, &mut |kept| still(&with_steps(kept)))?;
+    let base = with_steps(&kept);
+
+    let with_codes = |kept: &Vec<usize>| PathCase {
+        combinators: fewer(base.combinators, base.codes.len(), kept),
+        codes: kept_of(&base.codes, kept),
+        ..base.clone()
+    };
+    let all = (0..base.codes.len()).collect();
+    let kept = drop_some(all, &mut |kept| still(&with_codes(kept)))?;
+    Ok(with_codes(&kept))
+}
+
+fn kept_of<T: Copy>(list: &[T], kept: &[usize]) -> Vec<T> {
+    kept.iter().map(|&place| list[place]).collect()
+}
+
+/// A count of the first elements of a list, less those of them not kept.
+fn fewer(count: u32, length: usize, kept: &[usize]) -> u32 {
+    let counted = |&place: &usize| place < count as usize;
+    let gone = (0..length).filter(counted).count() - kept.iter().copied().filter(counted).count();
+    count - gone as u32
+}
+
+/// Leaves out single ids of rows, the ones after them moving up.
+fn shrink_ids(case: PathCase, still: Still<'_, PathCase>) -> Result<PathCase, String> {
+    let mut case = case;
+    let (steps, subjects) = (case.step_rows.len(), case.subject_rows.len());
+    for number in 0..steps + subjects {
+        for list in [0, 1] {
+            let room = if number < steps {
+                STEP_IDS
+            } else {
+                SUBJECT_IDS
+            };
+            for place in (0..room).rev() {
+                let mut tried = case.clone();
+                let row = match number.checked_sub(steps) {
+                    None => &mut tried.step_rows[number][..],
+                    Some(number) => &mut tried.subject_rows[number][..],
+                };
+                let count = row[4 + list] as usize;
+                if place >= count || count > room {
+                    continue;
+                }
+                row[4 + list] -= 1;
+                let ids = &mut row[ROW_HEAD + list * room..][..room];
+                ids[place..].rotate_left(1);
+                if still(&tried)? {
+                    case = tried;
+                }
+            }
+        }
+    }
+    Ok(case)
+}

@@ -1,0 +1,137 @@
+//! The judge run as a program: against itself, and against itself with a
+//! planted difference.
+
+use std::process::{Command, Output};
+
+const JUDGE: &str = env!("CARGO_BIN_EXE_judge");
+
+fn judge(words: &[&str]) -> Output {
+    let output = Command::new(JUDGE).args(words).output();
+    output.expect("the judge can be run")
+}
+
+/// Compares with a command that begins with the judge.
+fn compare(what: &str, run: &str, count: &str) -> (Option<i32>, String) {
+    let run = run.replace("JUDGE", &format!("'{JUDGE}'"));
+    let output = judge(&[
+        "compare", what, "--run", &run, "--seed", "3", "--count", count,
+    ]);
+    let text = String::from_utf8(output.stdout).expect("the judge writes text");
+    (output.status.code(), text)
+}
+
+#[test]
+fn no_difference_from_itself() {
+    for (what, run) in [("lists", "JUDGE answer"), ("paths", "JUDGE paths")] {
+        let told = format!("compared 2000 cases of {what}: no difference\n");
+        assert_eq!(compare(what, run, "2000"), (Some(0), told));
+    }
+    let told = "compared 100 files: no difference\n".to_string();
+    assert_eq!(compare("files", "JUDGE walk", "100"), (Some(0), told));
+}
+
+#[test]
+fn planted_difference_in_lists_is_made_small() {
+    let run = "JUDGE answer | sed 's/^set 3:.*/set 3: 0/'";
+    let (status, told) = compare("lists", run, "2000");
+    assert_eq!(status, Some(1));
+    assert!(told.contains("seed 3"), "{told}");
+    assert!(told.contains("kind 1, 3 words: "), "{told}");
+    assert!(told.contains("actual:\n  set 3: 0\n"), "{told}");
+}
+
+#[test]
+fn planted_difference_in_paths_is_made_small() {
+    let run = "JUDGE paths | sed 's/MissingSubject 1/MissingSubject 9/'";
+    let (status, told) = compare("paths", run, "4000");
+    assert_eq!(status, Some(1));
+    assert!(told.contains("paths, seed 3, case "), "{told}");
+    // Two steps and one subject, all without tags.
+    let (steps, subject) = (" 0".repeat(2 * 22), " 0".repeat(38));
+    let smallest = format!("case of 89 words: 2 2{steps} 1 1 0 1 1{subject}\n");
+    let lines = "expected:\n  match no\n  diagnosis MissingSubject 1 1\n  \
+                 weight0 0 0 0 0\n  weight1 0 0\n\
+                 actual:\n  match no\n  diagnosis MissingSubject 9 1\n  \
+                 weight0 0 0 0 0\n  weight1 0 0\n";
+    assert!(told.ends_with(&format!("{smallest}{lines}")), "{told}");
+
+    // An empty selector on one subject whose two classes or pseudos are 0.
+    let run = "JUDGE paths | sed 's/refused 1$/refused 7/'";
+    let (_, told) = compare("paths", run, "4000");
+    let smallest = |counts| {
+        let ids = " 0".repeat(32);
+        format!("\ncase of 44 words: 0 0 0 0 1 1 0 0 0 0 {counts}{ids}\n")
+    };
+    assert!(
+        told.contains(&smallest("2 0")) || told.contains(&smallest("0 2")),
+        "{told}"
+    );
+}
+
+#[test]
+fn planted_difference_at_the_end_of_paths_is_made_small() {
+    for (run, bytes, line) in [
+        ("sed 's/cut short/cut/'", "00", "cut short"),
+        ("sed '/too long/d'", "00 00 00 00 00 02 00 00", "too long"),
+    ] {
+        let (status, told) = compare("paths", &format!("JUDGE paths | {run}"), "20000");
+        assert_eq!(status, Some(1));
+        let smallest = format!("at the end, bytes: {bytes}\nexpected:\n  {line}\n");
+        assert!(told.contains(&smallest), "{told}");
+    }
+    // A line too many where there is nothing to say.
+    let (status, told) = compare("paths", "JUDGE paths; echo", "1");
+    assert_eq!(status, Some(1));
+    assert!(
+        told.contains("the empty input\nexpected:\n  (nothing)\n"),
+        "{told}"
+    );
+}
+
+#[test]
+fn planted_difference_in_files_is_made_small() {
+    let (status, told) = compare("files", "JUDGE walk | sed 's/^state/State/'", "50");
+    assert_eq!(status, Some(1));
+    let smallest = "bytes: 01 00 00 00 00 00 08 0a 00 00 00 00\n";
+    assert!(told.contains(smallest), "{told}");
+}
+
+#[test]
+fn a_command_that_says_too_little_differs() {
+    let (status, told) = compare("lists", "JUDGE answer | head -n 5", "100");
+    assert_eq!(status, Some(1));
+    assert!(told.contains("actual:\n  (nothing)\n"), "{told}");
+}
+
+#[test]
+fn wrong_usage_and_missing_commands_give_2() {
+    let wrong: [&[&str]; 6] = [
+        &[],
+        &["nonsense"],
+        &["make", "lists"],
+        &["make", "lists", "--seed", "x", "--count", "1"],
+        &[
+            "store",
+            "files",
+            "--seed",
+            "1",
+            "--count",
+            "1",
+            "--cases",
+            "c",
+            "--answers",
+            "a",
+        ],
+        &[
+            "make", "lists", "--seed", "1", "--count", "1", "--into", "d",
+        ],
+    ];
+    for words in wrong {
+        let output = judge(words);
+        assert_eq!(output.status.code(), Some(2), "{words:?}");
+        assert!(output.stdout.is_empty() && !output.stderr.is_empty());
+    }
+    let (status, told) = compare("lists", "exec 2>&-; no-such-command-here", "1");
+    assert_eq!((status, told), (Some(2), String::new()));
+    assert_eq!(judge(&["--help"]).status.code(), Some(0));
+}
