@@ -5,7 +5,7 @@ use mathlib.Core.List.{List, [], _∷_}
 use Prim.Native.Nat.{ℕ, zero, suc, _+_}
 use lib.Dec.{T}
 
--- §4: "A selector is a chain of one or more sequences of simple selectors separated by combinators." A step stands for a sequence
+-- §4: a selector is a chain of one or more sequences of simple selectors, separated by combinators. A step stands for a sequence
 pub data Chain (Step : Type 0) : Type 0 where
   -- one sequence
   sequence : Step → Chain Step
@@ -44,7 +44,7 @@ module _ {Step Subject : Type 0} (ok : Step → Subject → Bool) where
 pub data Simple : Type 0 where
   idSelector class attribute pseudoClass type pseudoElement universal : Simple
 
--- "count the number of ID selectors in the selector (= a)"
+-- a counts the ID selectors,
 abbrev pub inA : Simple → ℕ
 inA idSelector = 1
 inA class = 0
@@ -54,7 +54,7 @@ inA type = 0
 inA pseudoElement = 0
 inA universal = 0
 
--- "count the number of class selectors, attributes selectors, and pseudo-classes in the selector (= b)"
+-- b the class selectors, attribute selectors and pseudo-classes,
 abbrev pub inB : Simple → ℕ
 inB idSelector = 0
 inB class = 1
@@ -64,7 +64,7 @@ inB type = 0
 inB pseudoElement = 0
 inB universal = 0
 
--- "count the number of type selectors and pseudo-elements in the selector (= c)", "ignore the universal selector"
+-- c the type selectors and pseudo-elements; the universal selector is ignored
 abbrev pub inC : Simple → ℕ
 inC idSelector = 0
 inC class = 0

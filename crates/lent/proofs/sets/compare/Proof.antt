@@ -36,12 +36,12 @@ shared-slice-read-y c = search needs
 returns-2 : tie.Need-returns-2 Inv-loop μ-loop
 returns-2 c =
     let l = c .before .before .before .before .before .loop in
-    sym (l .inv .2 ∙ compare-at-less _ _ (l .i) (omega arith) (omega arith) (c .if2 .taken))
+    sym (l .inv .2 ∙ compare-at-less _ _ (l .i) (omega arith) (omega arith) (omega arith))
 
 returns-3 : tie.Need-returns-3 Inv-loop μ-loop
 returns-3 c =
     let l = c .before .before .before .before .before .before .loop in
-    sym (l .inv .2 ∙ compare-at-more _ _ (l .i) (omega arith) (omega arith) (c .if3 .taken))
+    sym (l .inv .2 ∙ compare-at-more _ _ (l .i) (omega arith) (omega arith) (omega arith))
 
 add-i : tie.Need-add-i Inv-loop μ-loop
 add-i c = search needs
