@@ -68,6 +68,13 @@ module _ (l : List ℕ) (from to : ℕ) where
   pub part-rest : length l < to → take (length l - from) (drop from l) ≡ take (to - from) (drop from l)
   part-rest h = take-all (length l - from) (drop from l) (simp length-drop (omega arith)) ∙ sym (take-all (to - from) (drop from l) (simp length-drop (omega arith)))
 
+-- and those of `rest`
+pub rest-none : (l : List ℕ) (from : ℕ) → length l ≤ from → [] ≡ drop from l
+rest-none l from h = sym (drop-of-length-le l h)
+
+pub rest-all : (l : List ℕ) (from : ℕ) → take (length l - from) (drop from l) ≡ drop from l
+rest-all l from = take-all (length l - from) (drop from l) (simp length-drop (omega arith))
+
 -- ---- ends
 
 -- none of the first n lists ends before its start

@@ -1,14 +1,19 @@
 -- Laws of the refusals' numbers, and of the first test that holds. Assumes nothing.
 use mathlib.Core.Path.{_≡_, refl, sym, ap, _∙_, subst}
-use mathlib.Core.Bool.{Bool, true, false}
+use mathlib.Core.Bool.{Bool, true, false, _&&_}
 use mathlib.Core.List.{List, [], _∷_, _++_, List·Memᴰ·head, List·Memᴰ·tail, List·Memᴰ·cases-cons, List·Memᴰ·not-nil}
-use mathlib.Core.Logic.{_⊎_, inl, inr}
-use Prim.Native.Nat.{ℕ, zero, suc, _<_}
+use mathlib.Core.Logic.{_⊎_, inl, inr, ⊎-elim}
+use Prim.Native.Nat.{ℕ, zero, suc, _+_, _≤_, _<_}
+use native.Mathlib.Nat.{eq-or-lt-of-le, le-of-suc-le-suc}
+use native.Mathlib.Numerals.{add-one}
 use native.Mathlib.Omega.{arith}
 use native.Mathlib.Decide.{decLt}
 use lib.ListN.{getD, List·getD-eq-default}
+use lib.Dec.{ltb}
+use borrow.Author.Tests.{ltb-true}
 use Rattle.theory.specs.Lists.{_∈_}
-use Rattle.lent.specs.Refusals.{numberOf, added, told, refusals, refusalOf, Check, firstOf}
+use Rattle.theory.proofs.Lists.{and-left, and-right}
+use Rattle.lent.specs.Refusals.{numberOf, added, told, refusals, refusalOf, Check, firstOf, checksBelow}
 use Rattle.lent.specs.declared.Refusal.{Refusal}
 use Rattle.lent.specs.declared.Refusal.the-variants.{NotAscending, OverSize, CombinatorCount, NotAState, NoRoom, CodeOutOfRange, NoSourceIndex, BufferTooShort, NoSuchRule, BadRecord, BrokenShape}
 
@@ -170,3 +175,111 @@ first-zero (c ∷ l) p e = by (c .fails) refl (λ f. first-zero l (λ d m. p d (
     by : (t : Bool) → c .fails ≡ t → (c .fails ≡ false → Passed l) → Passed (c ∷ l)
     by true f r = absurd (omega (arith, p c (List·Memᴰ·head refl), sym (first-here c l f) ∙ e))
     by false f r = passed-cons c l f (r f)
+
+-- ---- one list of tests after another
+
+-- every number is positive: by `refl` where the numbers are written out
+abbrev pub positive : List Check → Bool
+positive [] = true
+positive (c ∷ l) = ltb 0 (c .number) && positive l
+
+pub positive-append : (a b : List Check) → positive a ≡ true → positive b ≡ true → positive (a ++ b) ≡ true
+positive-append [] b p q = q
+positive-append (c ∷ a) b p q = rw (and-left (ltb 0 (c .number)) _ p) (positive-append a b (and-right (ltb 0 (c .number)) _ p) q)
+
+stop : (a b : List Check) → (firstOf a ≡ 0 → ⊥) → firstOf (a ++ b) ≡ firstOf a
+stop [] b h = absurd (h (unfold firstOf in refl))
+stop (c ∷ a) b h = by (c .fails) refl (λ f. stop a b (λ e. h (first-next c a f ∙ e)))
+  where
+    by : (t : Bool) → c .fails ≡ t → (c .fails ≡ false → firstOf (a ++ b) ≡ firstOf a) → firstOf (c ∷ (a ++ b)) ≡ firstOf (c ∷ a)
+    by true f r = first-here c (a ++ b) f ∙ sym (first-here c a f)
+    by false f r = first-next c (a ++ b) f ∙ r f ∙ sym (first-next c a f)
+
+go : (a b : List Check) → positive a ≡ true → firstOf a ≡ 0 → firstOf (a ++ b) ≡ firstOf b
+go [] b p e = refl
+go (c ∷ a) b p e = by (c .fails) refl (λ f. go a b (and-right (ltb 0 (c .number)) _ p) (sym (first-next c a f) ∙ e))
+  where
+    by : (t : Bool) → c .fails ≡ t → (c .fails ≡ false → firstOf (a ++ b) ≡ firstOf b) → firstOf (c ∷ (a ++ b)) ≡ firstOf b
+    by true f r = absurd (omega (arith, ltb-true 0 (c .number) (and-left _ _ p), sym (first-here c a f) ∙ e))
+    by false f r = first-next c (a ++ b) f ∙ r f
+
+-- where the first list has one that holds, the second does not count
+pub first-stop : (a b : List Check) (v : ℕ) → v ≡ firstOf a → (v ≡ 0 → ⊥) → v ≡ firstOf (a ++ b)
+first-stop a b v e h = e ∙ sym (stop a b (λ q. h (e ∙ q)))
+
+-- where it has none, the second does
+pub first-go : (a b : List Check) (v r : ℕ) → v ≡ firstOf a → v ≡ 0 → positive a ≡ true → r ≡ firstOf b → r ≡ firstOf (a ++ b)
+first-go a b v r e z p f = f ∙ sym (go a b p (sym e ∙ z))
+
+-- where none holds, neither list has one
+pub first-both : (a b : List Check) → positive a ≡ true → firstOf (a ++ b) ≡ 0 → (firstOf a ≡ 0) × (firstOf b ≡ 0)
+first-both a b p h = elim (above (firstOf a)) [
+  | inl e ↦ (e, sym (go a b p e) ∙ h)
+  | inr l ↦ absurd (omega (arith, sym (stop a b (λ q. omega arith)) ∙ h))
+]
+
+-- ---- tests in turn
+
+abbrev pub Positive : (ℕ → List Check) → Type 0
+Positive checks = (k : ℕ) → positive (checks k) ≡ true
+
+module _ (checks : ℕ → List Check) where
+  pub checks-next : (n : ℕ) → checksBelow (n + 1) checks ≡ checksBelow n checks ++ checks n
+  unfolding checksBelow
+  checks-next n = rw add-one
+
+  pub positive-below : Positive checks → (n : ℕ) → positive (checksBelow n checks) ≡ true
+  unfolding checksBelow
+  positive-below p zero = refl
+  positive-below p (suc n) = positive-append (checksBelow n checks) (checks n) (positive-below p n) (p n)
+
+  -- where none holds, none of turn k does
+  pub turn-at : Positive checks → (n k : ℕ) → firstOf (checksBelow n checks) ≡ 0 → k < n → firstOf (checks k) ≡ 0
+  unfolding checksBelow
+  turn-at p zero k e h = absurd (omega arith)
+  turn-at p (suc n) k e h =
+      let b = first-both (checksBelow n checks) (checks n) (positive-below p n) e in
+      ⊎-elim (λ q. rw q (b .1)) (λ l. turn-at p n k (b .0) l) (eq-or-lt-of-le (le-of-suc-le-suc h))
+
+  -- the first turn with one that holds decides
+  turn-first : Positive checks → (n k : ℕ) → k < n → firstOf (checksBelow k checks) ≡ 0 → (firstOf (checks k) ≡ 0 → ⊥) → firstOf (checksBelow n checks) ≡ firstOf (checks k)
+  unfolding checksBelow
+  turn-first p zero k h z x = absurd (omega arith)
+  turn-first p (suc n) k h z x =
+      ⊎-elim (λ q. rw q (go (checksBelow n checks) (checks n) (positive-below p n) (rw q at z)))
+      (λ l. let e = turn-first p n k l z x in stop (checksBelow n checks) (checks n) (λ y. x (sym e ∙ y)) ∙ e)
+      (eq-or-lt-of-le (le-of-suc-le-suc h))
+
+-- a loop over n turns, at k; `search (turns, needs)` answers what it asks
+pub record Turns (checks : ℕ → List Check) (n k : ℕ) : Type 0 where
+  pub within : k ≤ n
+  pub numbers : Positive checks
+  pub passed : firstOf (checksBelow k checks) ≡ 0
+
+pub turns-start : {checks : ℕ → List Check} {n : ℕ} → Positive checks → Turns checks n 0
+unfolding firstOf checksBelow
+turns-start p = record { within = omega arith; numbers = p; passed = refl }
+
+module _ {checks : ℕ → List Check} {n k : ℕ} (t : Turns checks n k) where
+  pub turns-next : (v : ℕ) → k < n → v ≡ firstOf (checks k) → v ≡ 0 → Turns checks n (k + 1)
+  turns-next v h e z = record {
+    within = omega arith;
+    numbers = t .numbers;
+    passed = rw (checks-next checks k) (go (checksBelow k checks) (checks k) (positive-below checks (t .numbers) k) (t .passed) ∙ sym e ∙ z);
+  }
+
+  -- a turn's refusal is the loop's
+  pub turns-fails : (v : ℕ) → k < n → v ≡ firstOf (checks k) → (v ≡ 0 → ⊥) → v ≡ firstOf (checksBelow n checks)
+  turns-fails v h e x = e ∙ sym (turn-first checks (t .numbers) n k h (t .passed) (λ q. x (e ∙ q)))
+
+  pub turns-done : n ≤ k → 0 ≡ firstOf (checksBelow n checks)
+  turns-done h = let e : n ≡ k = omega (arith, t .within) in rw e (sym (t .passed))
+
+  -- the same, where other tests follow the turns
+  pub turns-stop : (v : ℕ) → k < n → v ≡ firstOf (checks k) → (v ≡ 0 → ⊥) → (rest : List Check) → v ≡ firstOf (checksBelow n checks ++ rest)
+  turns-stop v h e x rest = first-stop (checksBelow n checks) rest v (turns-fails v h e x) x
+
+  pub turns-end : (r : ℕ) (rest : List Check) → n ≤ k → r ≡ firstOf rest → r ≡ firstOf (checksBelow n checks ++ rest)
+  turns-end r rest h e = first-go (checksBelow n checks) rest 0 r (turns-done h) refl (positive-below checks (t .numbers) n) e
+
+pub ruleset turns = (turns-start, turns-next, turns-fails, turns-done, turns-stop, turns-end)

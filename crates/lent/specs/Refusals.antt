@@ -1,7 +1,7 @@
 -- The refusals' numbers, and which of several counts. Assumes nothing.
 use mathlib.Core.Bool.{Bool, cond}
-use mathlib.Core.List.{List, [], _∷_}
-use Prim.Native.Nat.{ℕ}
+use mathlib.Core.List.{List, [], _∷_, _++_}
+use Prim.Native.Nat.{ℕ, zero, suc}
 use lib.ListN.{getD}
 use lib.Dec.{eqb}
 use Rattle.lent.specs.declared.Refusal.{Refusal}
@@ -71,6 +71,11 @@ check n b = record { number = n; fails = b }
 unfoldable pub firstOf : List Check → ℕ
 firstOf [] = 0
 firstOf (c ∷ l) = cond (c .fails) (c .number) (firstOf l)
+
+-- "each .. in turn": the checks of number 0, then those of number 1, and so on below n
+unfoldable pub checksBelow : ℕ → (ℕ → List Check) → List Check
+checksBelow zero checks = []
+checksBelow (suc n) checks = checksBelow n checks ++ checks n
 
 -- A call's answer as numbers: what an accepted call tells, a list that begins with 0, or the refusal's number alone
 abbrev pub answered : ℕ → List ℕ → List ℕ

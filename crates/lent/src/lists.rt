@@ -54,6 +54,26 @@ pub fn part<'a>(pool: &'a [u32], from: usize, to: usize) -> &'a [u32]
     &pool[from..to]
 }
 
+// What stands from `from` on.
+pub fn rest<'a>(words: &'a [u32], from: usize) -> &'a [u32]
+    ensures { λ r. ⌜ now r ≡ drop from (now (words .entry)) ⌝ }
+{
+    if words.len() <= from {
+        return &words[0..0];
+    }
+    &words[from..]
+}
+
+// The same of half words.
+pub fn rest_halves<'a>(words: &'a [u16], from: usize) -> &'a [u16]
+    ensures { λ r. ⌜ now r ≡ drop from (now (words .entry)) ⌝ }
+{
+    if words.len() <= from {
+        return &words[0..0];
+    }
+    &words[from..]
+}
+
 // List k, as a part of the pool.
 pub fn list_of<'a>(words: &[u32], column: Column, pool: &'a [u32], k: u32) -> &'a [u32]
     ensures { λ r. ⌜ now r ≡ listAt (endsIn (now (words .entry)) (column .base) (column .stride)) (now (pool .entry)) k ⌝ }

@@ -1,6 +1,6 @@
 // Lists of numbers that anyone may give: `is_sorted_unique` and the order of slices in the Rust.
 ghost use mathlib.Core.Path.{_≡_};
-ghost use Rattle.theory.specs.Lists.{ascends, compare};
+ghost use Rattle.theory.specs.Lists.{ascends, atMost, compare};
 
 // Whether each id is above the one before it.
 pub fn is_ascending(ids: &[u32]) -> bool
@@ -14,6 +14,20 @@ pub fn is_ascending(ids: &[u32]) -> bool
             return false;
         }
         low = id + 1;
+        i += 1;
+    }
+    true
+}
+
+// Whether no number is above the limit.
+pub fn at_most(numbers: &[u32], limit: u32) -> bool
+    ensures { λ r. ⌜ r ≡ atMost limit (now (numbers .entry)) ⌝ }
+{
+    let mut i = 0;
+    while i < numbers.len() {
+        if limit < numbers[i] {
+            return false;
+        }
         i += 1;
     }
     true

@@ -40,3 +40,20 @@ pub fn copy_into(words: &mut [u32], at: usize, list: &[u32])
         j += 1;
     }
 }
+
+// The same for a list of half words.
+pub fn widen_into(words: &mut [u32], at: usize, list: &[u16])
+    ensures { λ _. ⌜ now (words .exit) ≡ sets (now (words .entry)) at (now (list .entry)) ⌝ }
+{
+    let mut j = 0;
+    while j < list.len() {
+        if words.len() <= at {
+            return;
+        }
+        if words.len() - at <= j {
+            return;
+        }
+        words[at + j] = list[j] as u32;
+        j += 1;
+    }
+}

@@ -6,10 +6,9 @@ use mathlib.Core.Logic.{inl, inr}
 use Prim.Native.Nat.{ℕ, zero, suc, _+_, _-_, _<_}
 use native.Mathlib.Numerals.{add-one}
 use borrow.Author.Tests.{lt-ltb}
-use Rattle.theory.specs.Lists.{_∈_}
+use Rattle.theory.specs.Lists.{_∈_, spread}
 use Rattle.selector.specs.declared.Diagnosis.{Diagnosis}
 use Rattle.selector.specs.declared.Diagnosis.the-variants.{Fits, EmptySelectorWithNonEmptyPath, MissingSubject, StepMismatch, TrailingSubjects, MissingDescendant, Refused}
-use Rattle.selector.specs.Rows.{spread}
 use Rattle.selector.specs.Diagnosing.{judge, tryFrom, goOn}
 
 abbrev isMismatch : Diagnosis → Bool

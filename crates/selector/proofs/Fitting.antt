@@ -4,21 +4,23 @@ use mathlib.Core.Logic.{_↔_, Iff·trans}
 use mathlib.Core.Bool.{Bool, true, false, cond}
 use mathlib.Core.List.{List, [], _∷_}
 use Prim.Native.Nat.{ℕ, zero, suc, _+_, _-_, _*_, _≤_, _<_}
-use native.Mathlib.Nat.{add-zero, zero-add, sub-zero, add-assoc}
+use native.Mathlib.Nat.{add-zero, zero-add, add-assoc}
 use native.Mathlib.Numerals.{add-one}
 use native.Mathlib.Omega.{arith}
 use lib.ListN.{getD, drop}
 use lib.Seq.{getD-drop, drop-drop}
 use lib.Dec.{T, eqb}
 use borrow.Author.Tests.{lt-ltb, le-ltb, ltb-false, eqb-true, eq-eqb, not-true, not-false}
+use Rattle.theory.specs.Lists.{spread}
 use Rattle.theory.specs.Paths.{child, descendant, Part, Selector, Goes, done, here, skip, Fits, Places}
 use Rattle.theory.specs.Level3.{Chain, Element, Represents}
 use Rattle.theory.specs.Reading.{chainOf, elementOf}
+use Rattle.theory.proofs.Spreads.{spread-same, spread-shift, drop-spread}
 use Rattle.theory.proofs.Places as places
 use Rattle.theory.proofs.Level3.{represents-tail}
 use Rattle.lent.proofs.All.{all-at}
 use Rattle.selector.specs.Tags.{Tags, stepMatches}
-use Rattle.selector.specs.Rows.{rowAt, stepAt, subjectAt, spread, combOf, combBefore, selectorOf, pathOf}
+use Rattle.selector.specs.Rows.{rowAt, stepAt, subjectAt, combOf, combBefore, selectorOf, pathOf}
 use Rattle.selector.specs.Checks.{codesOver, pathVerdict}
 use Rattle.selector.specs.Matching.{anyFrom, fitsFrom, farAt, fits, matchingTold, yesNo, matchingOf}
 use Rattle.selector.proofs.Answers.{accepted, told-is}
@@ -125,20 +127,6 @@ matching-places steps n combinators c path m z =
 
 -- ---- tails
 
-spread-drop : {A : Type 0} (f : ℕ → A) (j k n : ℕ) → drop j (spread f k n) ≡ spread f (k + j) (n - j)
-spread-drop f zero k n = simp (add-zero, sub-zero)
-spread-drop f (suc j) k zero = let z : zero - suc j ≡ 0 = omega arith in rw z
-spread-drop f (suc j) k (suc n) =
-    let a : suc k + j ≡ k + suc j = omega arith in
-    let b : n - j ≡ suc n - suc j = omega arith in
-    spread-drop f j (suc k) n ∙ rw (a, b)
-
-spread-same : {A : Type 0} (f g : ℕ → A) (j : ℕ) → ((i : ℕ) → f i ≡ g (j + i)) → (k n : ℕ) → spread f k n ≡ spread g (j + k) n
-spread-same f g j h k zero = refl
-spread-same f g j h k (suc n) =
-    let a : j + suc k ≡ suc (j + k) = omega arith in
-    rw (h k, spread-same f g j h (suc k) n, a)
-
 subject-drop : (path : List ℕ) (j i : ℕ) → subjectAt (drop (38 * j) path) i ≡ subjectAt path (j + i)
 unfolding rowAt
 subject-drop path j i =
@@ -149,8 +137,9 @@ subject-drop path j i =
 path-drop : (path : List ℕ) (j m : ℕ) → pathOf (drop (38 * j) path) (m - j) ≡ drop j (pathOf path m)
 unfolding pathOf
 path-drop path j m =
-    spread-same (subjectAt (drop (38 * j) path)) (subjectAt path) j (subject-drop path j) 0 (m - j)
-    ∙ rw (add-zero, spread-drop (subjectAt path) j 0 m, zero-add)
+    spread-same (subjectAt (drop (38 * j) path)) (λ i. subjectAt path (j + i)) 0 (m - j) (λ i p q. subject-drop path j i)
+    ∙ spread-shift (subjectAt path) j 0 (m - j)
+    ∙ rw (add-zero, drop-spread (subjectAt path) j 0 m, zero-add)
 
 -- The selector of n + 1 steps as a chain, and the last element of a path of m + 1 subjects
 abbrev pub chainAt : List ℕ → List ℕ → ℕ → Chain Tags

@@ -10,7 +10,7 @@ use lib.Dec.{ltb}
 use mir.Syntax.{w32}
 use mir.Val.{Fits}
 use borrow.Author.Tests.{eq-eqb, ne-eqb, ltb-false, not-true}
-use Rattle.theory.specs.Lists.{sort}
+use Rattle.theory.specs.Lists.{sort, spread}
 use Rattle.theory.specs.Weight.{Counts, total}
 use Rattle.theory.proofs.Lists.{and-left, and-right, sort-length}
 use Rattle.lent.specs.All.{allBelow}
@@ -21,7 +21,7 @@ use Rattle.lent.proofs.All.{all-at}
 use Rattle.lent.proofs.Refusals.{told-of}
 use Rattle.selector.specs.declared.Specificity.{Specificity}
 use Rattle.selector.specs.Tags.{asSets}
-use Rattle.selector.specs.Rows.{tagOf, wordsFrom, rowAt, stepAt, spread}
+use Rattle.selector.specs.Rows.{tagOf, wordsFrom, rowAt, stepAt}
 use Rattle.selector.specs.Checks.{rowFits, selectorVerdict}
 use Rattle.selector.specs.Weighing.{isSet, countsOf, countsIn, Counted, Summed, weighingOf}
 use Rattle.selector.proofs.RowLaws.{words-few}
@@ -71,7 +71,7 @@ module _ (steps : List ℕ) (s : ℕ) (fits : rowFits 8 steps s ≡ true) (l m :
 
 -- ---- the sums
 
-total-next : (g : Counts → ℕ) (f : ℕ → Counts) (k n : ℕ) → total g (spread f k (suc n)) ≡ total g (spread f k n) + g (f (k + n))
+pub total-next : (g : Counts → ℕ) (f : ℕ → Counts) (k n : ℕ) → total g (spread f k (suc n)) ≡ total g (spread f k n) + g (f (k + n))
 unfolding total
 total-next g f k zero = let z : k + 0 ≡ k = omega arith in rw z (omega arith)
 total-next g f k (suc n) = let z : k + suc n ≡ suc k + n = omega arith in rw (z, total-next g f (suc k) n) (omega arith)

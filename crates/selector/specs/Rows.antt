@@ -1,11 +1,12 @@
 -- Lent rows of words: a subject row has 38, a step row 22. Assumes nothing.
-use mathlib.Core.Bool.{Bool, cond}
+use mathlib.Core.Bool.{cond}
 use mathlib.Core.Option.{Option, none, some}
-use mathlib.Core.List.{List, [], _∷_, _++_}
-use Prim.Native.Nat.{ℕ, zero, suc, _+_, _-_, _*_}
+use mathlib.Core.List.{List}
+use Prim.Native.Nat.{ℕ, zero, suc, _+_, _*_}
 use lib.ListN.{getD, take, drop}
 use lib.Dec.{eqb}
-use Rattle.theory.specs.Paths.{Comb, child, descendant, Part, Selector}
+use Rattle.theory.specs.Lists.{spread}
+use Rattle.theory.specs.Paths.{Comb, child, descendant, Selector}
 use Rattle.selector.specs.Tags.{Tags, asSets}
 
 -- A row is type flag, type, part flag, part, class count, pseudo count, and room for `size` classes and `size` pseudos: 6 + 2 * size words
@@ -33,11 +34,6 @@ stepAt steps k = asSets (rowAt 8 steps (22 * k))
 
 abbrev pub subjectAt : List ℕ → ℕ → Tags
 subjectAt path i = rowAt 16 path (38 * i)
-
--- f at each of the n numbers from k on
-abbrev pub spread : {A : Type 0} → (ℕ → A) → ℕ → ℕ → List A
-spread f k zero = []
-spread f k (suc n) = f k ∷ spread f (suc k) n
 
 -- "0 child, 1 descendant"
 abbrev pub combOf : ℕ → Comb

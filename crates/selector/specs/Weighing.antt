@@ -4,13 +4,14 @@ use mathlib.Core.Option.{Option, none, some}
 use mathlib.Core.List.{List, [], _∷_}
 use Prim.Native.Nat.{ℕ, _≤_}
 use lib.ListN.{length}
+use Rattle.theory.specs.Lists.{spread}
 use Rattle.theory.specs.Weight.{Counts, total, Weight, weightOf}
 use Rattle.lent.specs.Refusals.{told, answered}
 use Rattle.selector.specs.declared.Specificity.{Specificity}
 use Rattle.selector.specs.declared.Weighing.{Weighing}
 use Rattle.selector.specs.declared.Weighing.the-variants.{Weighs, Refused}
 use Rattle.selector.specs.Tags.{Tags}
-use Rattle.selector.specs.Rows.{stepAt, spread}
+use Rattle.selector.specs.Rows.{stepAt}
 use Rattle.selector.specs.Checks.{selectorVerdict}
 
 abbrev pub isSet : Option ℕ → ℕ

@@ -63,7 +63,7 @@ fn subjects_fit(path: &[u32], m: usize) -> bool
     true
 }
 
-fn selector_over(steps: &[u32], n: usize, combinators: &[u32], c: usize) -> bool
+pub(crate) fn selector_over(steps: &[u32], n: usize, combinators: &[u32], c: usize) -> bool
     ensures { λ r. ⌜ r ≡ selectorOver (now (steps .entry)) n (now (combinators .entry)) c ⌝ }
 {
     if 8 < n {
@@ -128,7 +128,7 @@ fn subjects_off(path: &[u32], m: usize) -> bool
 }
 
 // 3, then 6.
-fn combinators_verdict(n: usize, combinators: &[u32], c: usize) -> u32
+pub(crate) fn combinators_verdict(n: usize, combinators: &[u32], c: usize) -> u32
     requires { ⌜ c ≤ length (now combinators) ⌝ }
     ensures { λ r. ⌜ r ≡ firstOf (check 3 (combinatorsOff n c) ∷ check 6 (codesOver (now (combinators .entry)) c) ∷ []) ⌝ }
 {

@@ -44,7 +44,7 @@ pub(crate) fn step_specificity(steps: &[u32], s: usize) -> Specificity
 }
 
 // Each count summed over n steps.
-fn sum(steps: &[u32], n: usize) -> Specificity
+pub(crate) fn sum(steps: &[u32], n: usize) -> Specificity
     requires { ⌜ (n ≤ 8) × (allBelow n (λ (k : ℕ). rowFits 8 (now steps) (22 * k)) ≡ true) ⌝ }
     ensures { λ r. ⌜ Summed (now (steps .entry)) n r ⌝ }
 {

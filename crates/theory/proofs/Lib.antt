@@ -1,4 +1,5 @@
 pub mod Lists
+pub mod Spreads
 pub mod Paths
 pub mod Places
 pub mod Level3

@@ -1,7 +1,7 @@
--- Lists of numbers: strictly ascending, sorted, selected, compared. Assumes nothing.
+-- Lists of numbers: strictly ascending, sorted, spread out, summed, selected, compared. Assumes nothing.
 use mathlib.Core.Bool.{Bool, true, false, cond, _&&_, _||_}
 use mathlib.Core.List.{List, [], _∷_, _++_, List·Memᴰ}
-use Prim.Native.Nat.{ℕ, zero, suc, _<_}
+use Prim.Native.Nat.{ℕ, zero, suc, _+_, _<_}
 use lib.Dec.{ltb, leb, eqb}
 use lib.IntN.{ℤ, pos, negsuc}
 
@@ -46,6 +46,21 @@ sort (a ∷ l) = insert a (sort l)
 abbrev pub only : Bool → ℕ → List ℕ
 only true n = n ∷ []
 only false n = []
+
+-- No number is above the limit
+unfoldable pub atMost : ℕ → List ℕ → Bool
+atMost limit [] = true
+atMost limit (a ∷ l) = leb a limit && atMost limit l
+
+-- f at each of the n numbers from k on
+abbrev pub spread : {A : Type 0} → (ℕ → A) → ℕ → ℕ → List A
+spread f k zero = []
+spread f k (suc n) = f k ∷ spread f (suc k) n
+
+-- The sum of f over the numbers below n
+unfoldable pub sumBelow : (ℕ → ℕ) → ℕ → ℕ
+sumBelow f zero = 0
+sumBelow f (suc n) = sumBelow f n + f n
 
 -- The numbers below n that pass a test, ascending
 unfoldable pub select : (ℕ → Bool) → ℕ → List ℕ

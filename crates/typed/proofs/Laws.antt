@@ -3,15 +3,16 @@ use mathlib.Core.Path.{_≡_, refl, sym, ap, _∙_}
 use mathlib.Core.Option.{Option, none, some}
 use mathlib.Core.List.{List, [], _∷_}
 use Prim.Native.Nat.{ℕ, zero, suc, _+_, _-_, _≤_, _<_}
-use native.Mathlib.Nat.{le-of-suc-le-suc, zero-add}
+use native.Mathlib.Nat.{zero-add}
 use native.Mathlib.Omega.{arith}
 use lib.ListN.{length, getD, take, drop, set, replicate, length-replicate, length-drop}
 use lib.Seq.{sets, sets-eq, take-all, take-append-le, drop-at, drop-drop}
 use mir.Syntax.{w32}
 use mir.Val.{Fits}
 use borrow.Author.Tests.{lt-ltb, le-ltb}
-use Rattle.theory.specs.Lists.{sort}
+use Rattle.theory.specs.Lists.{sort, spread}
 use Rattle.theory.proofs.Lists.{sort-length}
+use Rattle.theory.proofs.Spreads.{length-spread, take-spread}
 use Rattle.lent.specs.Buffers.{Holds}
 use Rattle.lent.specs.Refusals.{firstOf}
 use Rattle.lent.specs.declared.Refusal.the-variants.{OverSize}
@@ -24,7 +25,7 @@ use Rattle.typed.specs.declared.Verdict.the-variants.{Accepted, Refused}
 use Rattle.typed.specs.declared.SelectorInputsOwned.{SelectorInputsOwned}
 use Rattle.typed.specs.declared.SelectorStep.{SelectorStep}
 use Rattle.selector.proofs.RowLaws.{words-few}
-use Rattle.selector.specs.Rows.{tagOf, wordsFrom, spread, rowAt}
+use Rattle.selector.specs.Rows.{tagOf, wordsFrom, rowAt}
 use Rattle.selector.specs.Weighing.{isSet}
 use Rattle.typed.specs.Typed.{typeOf, partOf, classNumber, pseudoNumber, inputsTags, stepTags, inputsOf, tagged}
 use Rattle.typed.specs.Typed.{tagNumber, rowWith, rowOf, inputsRow, stepRow, rowType, rowPart, inputsWith, stepWith, inputsFrom, stepFrom}
@@ -35,15 +36,6 @@ use Rattle.typed.specs.Typed.{ownedVerdict, idsRow, ownedInputs, Owned}
 spread-next : {A : Type 0} (f : ℕ → A) (k n : ℕ) → spread (λ j. f (suc j)) k n ≡ spread f (suc k) n
 spread-next f k zero = refl
 spread-next f k (suc n) = ap (λ l. f (suc k) ∷ l) (spread-next f (suc k) n)
-
-spread-length : {A : Type 0} (f : ℕ → A) (k n : ℕ) → length (spread f k n) ≡ n
-spread-length f k zero = refl
-spread-length f k (suc n) = ap suc (spread-length f (suc k) n)
-
-take-spread : {A : Type 0} (f : ℕ → A) (k n m : ℕ) → n ≤ m → take n (spread f k m) ≡ spread f k n
-take-spread f k zero m h = refl
-take-spread f k (suc n) zero h = absurd (omega arith)
-take-spread f k (suc n) (suc m) h = ap (λ l. f k ∷ l) (take-spread f (suc k) n m (le-of-suc-le-suc h))
 
 sets-nil : (i : ℕ) (l : List ℕ) → sets [] i l ≡ []
 sets-nil i [] = refl
@@ -75,10 +67,10 @@ tag-back (some n) = refl
 module _ (size tf t pf p n m : ℕ) (class pseudo : ℕ → ℕ) where
   row-classes : (k : ℕ) → k ≤ size → take k (drop 6 (rowWith size tf t pf p n m class pseudo)) ≡ spread class 0 k
   row-classes k h =
-      take-append-le k (spread class 0 size) (spread pseudo 0 size) (rw spread-length h) ∙ take-spread class 0 k size h
+      take-append-le k (spread class 0 size) (spread pseudo 0 size) (rw length-spread h) ∙ take-spread class 0 k size h
 
   row-pseudos : (k : ℕ) → k ≤ size → take k (drop (6 + size) (rowWith size tf t pf p n m class pseudo)) ≡ spread pseudo 0 k
-  row-pseudos k h = ap (take k) (sym (drop-drop size 6 _) ∙ drop-at (spread class 0 size) (spread pseudo 0 size) size (spread-length class 0 size)) ∙ take-spread pseudo 0 k size h
+  row-pseudos k h = ap (take k) (sym (drop-drop size 6 _) ∙ drop-at (spread class 0 size) (spread pseudo 0 size) size (length-spread class 0 size)) ∙ take-spread pseudo 0 k size h
 
 -- what a row says is what was written
 row-tags : (size n m : ℕ) (t p : Option ℕ) (class pseudo : ℕ → ℕ) → n ≤ size → m ≤ size

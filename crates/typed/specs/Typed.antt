@@ -7,7 +7,7 @@ use mathlib.Core.List.{List, [], _∷_, _++_}
 use Prim.Native.Nat.{ℕ, _+_}
 use lib.ListN.{length, getD, set, replicate}
 use lib.Dec.{ltb, eqb}
-use Rattle.theory.specs.Lists.{sort}
+use Rattle.theory.specs.Lists.{sort, spread}
 use Rattle.theory.specs.Weight.{weightOf}
 use Rattle.lent.specs.Refusals.{told, check, firstOf, answered}
 use Rattle.typed.specs.declared.TypeTag.{TypeTag}
@@ -22,7 +22,7 @@ use Rattle.typed.specs.declared.SelectorStep.{SelectorStep}
 use Rattle.typed.specs.declared.Verdict.{Verdict}
 use Rattle.typed.specs.declared.Verdict.the-variants.{Accepted, Refused}
 use Rattle.selector.specs.Tags.{Tags, asSets, stepMatches}
-use Rattle.selector.specs.Rows.{tagOf, spread}
+use Rattle.selector.specs.Rows.{tagOf}
 use Rattle.selector.specs.Checks.{tagsAscend}
 use Rattle.selector.specs.Matching.{matchingTold, yesNo}
 use Rattle.selector.specs.Weighing.{isSet, countsOf, weightTold}

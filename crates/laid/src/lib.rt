@@ -1,0 +1,1 @@
+// No code: theorems of what `sheet` defines stand in proofs/.

@@ -1,0 +1,117 @@
+-- The words after direct styles and rules have been added to those of a sheet. Assumes nothing.
+use mathlib.Core.Option.{Option, none, some}
+use mathlib.Core.List.{List, [], _∷_, _++_, map, flatMap}
+use Prim.Native.Nat.{ℕ, zero, suc, _+_, _-_, _*_}
+use lib.ListN.{length, getD, replicate, take}
+use lib.Seq.{sets}
+use Rattle.theory.specs.Paths.{Comb, child, descendant, Part, Selector}
+use Rattle.theory.specs.Weight.{total}
+use Rattle.selector.specs.Tags.{Tags}
+use Rattle.selector.specs.Weighing.{isSet}
+use Rattle.style.specs.Entries.{Entry}
+use Rattle.sheet.specs.Layout
+use Rattle.sheet.specs.Sheets.{Style, Rule, countsFor}
+
+-- ---- rows
+
+abbrev pub tagNumber : Option ℕ → ℕ
+tagNumber none = 0
+tagNumber (some n) = n
+
+-- "0 child, 1 descendant"
+abbrev pub codeOf : Comb → ℕ
+codeOf child = 0
+codeOf descendant = 1
+
+-- eight words: the ids, then zeros
+abbrev pub idWords : List ℕ → List ℕ
+idWords ids = take 8 (ids ++ replicate 8 0)
+
+-- A step's row, whole: a tag that isn't set is written as 0 and 0, and so is every word past the ids
+unfoldable pub stepWords : Part Tags → List ℕ
+stepWords p =
+    let t = p .step in
+    isSet (t .type)
+    ∷ tagNumber (t .type)
+    ∷ isSet (t .part)
+    ∷ tagNumber (t .part)
+    ∷ length (t .classes)
+    ∷ length (t .pseudos)
+    ∷ (idWords (t .classes) ++ (idWords (t .pseudos) ++ codeOf (p .comb) ∷ []))
+
+abbrev pub stepsWords : List Rule → List ℕ
+stepsWords rules = flatMap (λ r. flatMap stepWords (r .selector)) rules
+
+-- Rows of rules; the steps and entries before them end at s and e
+unfoldable pub ruleWords : ℕ → ℕ → List Rule → List ℕ
+ruleWords s e [] = []
+ruleWords s e (r ∷ l) =
+    let s′ = s + length (r .selector) in
+    let e′ = e + length (r .entries) in
+    r .origin ∷ r .source ∷ r .order ∷ s′ ∷ e′ ∷ ruleWords s′ e′ l
+
+unfoldable pub styleWords : ℕ → List Style → List ℕ
+styleWords e [] = []
+styleWords e (d ∷ l) = let e′ = e + length (d .entries) in d .origin ∷ d .source ∷ e′ ∷ styleWords e′ l
+
+-- ---- what is added in all
+
+abbrev pub ruleEntries : List Rule → List Entry
+ruleEntries rules = flatMap (λ r. r .entries) rules
+
+abbrev pub styleEntries : List Style → List Entry
+styleEntries styles = flatMap (λ d. d .entries) styles
+
+abbrev pub stepsOf : List Rule → Selector Tags
+stepsOf rules = flatMap (λ r. r .selector) rules
+
+-- the ids of a selector, as held
+unfoldable pub idsHeld : Selector Tags → ℕ
+idsHeld sel = total (λ c. c .classes) (countsFor sel) + total (λ c. c .pseudos) (countsFor sel)
+
+-- ---- the words after
+
+-- n entries into the pool at `base`, after those that it holds
+unfoldable pub layEntries : ℕ → ℕ → ℕ → List Entry → List ℕ → List ℕ
+layEntries base room e l w =
+    sets (sets (sets w (base + e) (map (λ x. x .property) l)) (base + room + e) (map (λ x. x .kind) l)) (base + 2 * room + e) (map (λ x. x .number) l)
+
+-- rules after r rules with s steps and e entries
+unfoldable pub layRules : ℕ → ℕ → ℕ → List Rule → List ℕ → List ℕ
+layRules r s e rules w =
+    sets
+    (sets (layEntries Layout.ENTRY Layout.ENTRY-ROOM e (ruleEntries rules) w) (Layout.stepPlace s) (stepsWords rules))
+    (Layout.RULE-ORIGIN + Layout.RULE-WORDS * r)
+    (ruleWords s e rules)
+
+-- direct styles after d styles with e entries
+unfoldable pub layStyles : ℕ → ℕ → List Style → List ℕ → List ℕ
+layStyles d e styles w =
+    sets
+    (layEntries Layout.STYLE-ENTRY Layout.STYLE-ENTRY-ROOM e (styleEntries styles) w)
+    (Layout.STYLE-ORIGIN + Layout.STYLE-WORDS * d)
+    (styleWords e styles)
+
+-- the counts after
+unfoldable pub countWords : List Style → List Rule → ℕ → List ℕ → List ℕ
+countWords styles rules next w =
+    (Layout.rulesIn w + length rules)
+    ∷ (Layout.stepsIn w + length (stepsOf rules))
+    ∷ (Layout.idsIn w + idsHeld (stepsOf rules))
+    ∷ (Layout.entriesIn w + length (ruleEntries rules))
+    ∷ (Layout.stylesIn w + length styles)
+    ∷ (Layout.styleEntriesIn w + length (styleEntries styles))
+    ∷ next
+    ∷ []
+
+-- After the styles and the rules that it holds, these: each row and each entry at the next free place, then the counts. Every other word stays
+unfoldable pub lay : List Style → List Rule → ℕ → List ℕ → List ℕ
+lay styles rules next w =
+    sets
+    (layStyles (Layout.stylesIn w) (Layout.styleEntriesIn w) styles (layRules (Layout.rulesIn w) (Layout.stepsIn w) (Layout.entriesIn w) rules w))
+    0
+    (countWords styles rules next w)
+
+-- "make the empty sheet": the counts only
+unfoldable pub emptied : List ℕ → List ℕ
+emptied w = sets w 0 (replicate 7 0)

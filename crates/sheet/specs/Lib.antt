@@ -1,0 +1,5 @@
+pub mod Layout
+pub mod Sheets
+pub mod Shape
+pub mod Laying
+pub mod Reading

@@ -1,0 +1,123 @@
+-- The shape of a sheet: 01's row 11. Assumes nothing.
+use mathlib.Core.Bool.{Bool, true, _&&_, cond}
+use mathlib.Core.List.{List}
+use Prim.Native.Nat.{ℕ, _+_, _-_, _*_}
+use lib.ListN.{length, getD, take, drop}
+use lib.Dec.{leb, ltb, eqb}
+use Rattle.theory.specs.Lists.{ascends, atMost, sumBelow}
+use Rattle.lent.specs.All.{allBelow}
+use Rattle.lent.specs.Pool.{endsIn, startOf, listAt}
+use Rattle.selector.specs.Rows.{rowAt, wordsFrom}
+use Rattle.selector.specs.Checks.{rowFits, tagsAscend}
+use Rattle.sheet.specs.Layout
+use Rattle.sheet.specs.Sheets.{ruleStepEnds, ruleEntryEnds, styleEntryEnds}
+
+-- "a sheet's room under its sizes"
+unfoldable pub roomEnough : List ℕ → Bool
+roomEnough w = leb Layout.SHEET-WORDS (length w)
+
+-- "counts past the room or the sizes": 256 rules, 8 steps each, 8,192 ids; the next source index at most 65,536;
+unfoldable pub ruleCountsFit : List ℕ → Bool
+ruleCountsFit w = leb (Layout.rulesIn w) 256 && (leb (Layout.stepsIn w) 2048 && (leb (Layout.idsIn w) 8192 && leb (Layout.nextIn w) 65536))
+
+-- 64 direct styles of 32 entries each, and 4,096 entries in the whole sheet
+unfoldable pub styleCountsFit : List ℕ → Bool
+styleCountsFit w = leb (Layout.stylesIn w) 64 && (leb (Layout.styleEntriesIn w) 2048 && leb (Layout.entriesIn w + Layout.styleEntriesIn w) 4096)
+
+-- "lists not end to end": list k ends at or after its start; and it has at most `size` elements
+unfoldable pub listFits : (ℕ → ℕ) → ℕ → ℕ → Bool
+listFits ends size k = leb (startOf ends k) (ends k) && leb (ends k - startOf ends k) size
+
+-- "a code out of range": an origin rank over 7; and a source index over 65,535
+unfoldable pub originFits : List ℕ → ℕ → ℕ → ℕ → Bool
+originFits w column stride k = leb (endsIn w column stride k) 7
+
+unfoldable pub sourceFits : List ℕ → ℕ → ℕ → ℕ → Bool
+sourceFits w column stride k = leb (endsIn w column stride k) 65535
+
+-- "a list not strictly ascending": the property ids of list k
+unfoldable pub propertiesAscend : List ℕ → ℕ → (ℕ → ℕ) → ℕ → Bool
+propertiesAscend w pool ends k = ascends (listAt ends (drop pool w) k)
+
+-- the combinator word of a rule's first step is 0
+unfoldable pub firstUntied : List ℕ → ℕ → Bool
+firstUntied w r =
+    let first = startOf (ruleStepEnds w) r in
+    cond (ltb first (ruleStepEnds w r)) (eqb (endsIn w Layout.STEP-COMBINATOR Layout.STEP-WORDS first) 0) true
+
+unfoldable pub ruleListsFit : List ℕ → ℕ → Bool
+ruleListsFit w r =
+    listFits (ruleStepEnds w) 8 r
+    && (listFits (ruleEntryEnds w) 32 r
+    && (firstUntied w r
+    && propertiesAscend w Layout.ENTRY (ruleEntryEnds w) r))
+
+unfoldable pub ruleFine : List ℕ → ℕ → Bool
+ruleFine w r =
+    originFits w Layout.RULE-ORIGIN Layout.RULE-WORDS r
+    && (sourceFits w Layout.RULE-SOURCE Layout.RULE-WORDS r
+    && ruleListsFit w r)
+
+unfoldable pub styleFine : List ℕ → ℕ → Bool
+styleFine w d =
+    originFits w Layout.STYLE-ORIGIN Layout.STYLE-WORDS d
+    && (sourceFits w Layout.STYLE-SOURCE Layout.STYLE-WORDS d
+    && (listFits (styleEntryEnds w) 32 d
+    && propertiesAscend w Layout.STYLE-ENTRY (styleEntryEnds w) d))
+
+-- a flag is 0 or 1
+unfoldable pub flagsFit : List ℕ → ℕ → Bool
+flagsFit w s = leb (getD w (Layout.stepPlace s) 0) 1 && leb (getD w (Layout.stepPlace s + 2) 0) 1
+
+-- a combinator code over 1
+unfoldable pub combinatorFits : List ℕ → ℕ → Bool
+combinatorFits w s = leb (endsIn w Layout.STEP-COMBINATOR Layout.STEP-WORDS s) 1
+
+-- flags; at most 8 classes and 8 pseudos; both ascending; the combinator
+unfoldable pub stepFine : List ℕ → ℕ → Bool
+stepFine w s =
+    flagsFit w s
+    && (rowFits 8 w (Layout.stepPlace s)
+    && (tagsAscend (rowAt 8 w (Layout.stepPlace s))
+    && combinatorFits w s))
+
+-- property words at most 65,535, kinds at most 3: of the n entries of a pool
+unfoldable pub poolFits : List ℕ → ℕ → ℕ → ℕ → Bool
+poolFits w base room n = atMost 65535 (wordsFrom w base n) && atMost 3 (wordsFrom w (base + room) n)
+
+-- the ids of step s
+abbrev pub idsAt : List ℕ → ℕ → ℕ
+idsAt w s = getD w (Layout.stepPlace s + 4) 0 + getD w (Layout.stepPlace s + 5) 0
+
+-- each count of what lists hold is where the last one ends,
+unfoldable pub endsAt : (ℕ → ℕ) → ℕ → ℕ → Bool
+endsAt ends n count = eqb (startOf ends n) count
+
+-- and the count of ids is their sum
+unfoldable pub idsMeet : List ℕ → Bool
+idsMeet w = eqb (sumBelow (idsAt w) (Layout.stepsIn w)) (Layout.idsIn w)
+
+unfoldable pub endsMeet : List ℕ → Bool
+endsMeet w =
+    endsAt (ruleStepEnds w) (Layout.rulesIn w) (Layout.stepsIn w)
+    && (endsAt (ruleEntryEnds w) (Layout.rulesIn w) (Layout.entriesIn w)
+    && (endsAt (styleEntryEnds w) (Layout.stylesIn w) (Layout.styleEntriesIn w)
+    && idsMeet w))
+
+unfoldable pub countsFit : List ℕ → Bool
+countsFit w = roomEnough w && (ruleCountsFit w && styleCountsFit w)
+
+unfoldable pub rowsFine : List ℕ → Bool
+rowsFine w =
+    allBelow (Layout.rulesIn w) (ruleFine w)
+    && (allBelow (Layout.stepsIn w) (stepFine w)
+    && allBelow (Layout.stylesIn w) (styleFine w))
+
+unfoldable pub poolsFit : List ℕ → Bool
+poolsFit w =
+    poolFits w Layout.ENTRY Layout.ENTRY-ROOM (Layout.entriesIn w)
+    && poolFits w Layout.STYLE-ENTRY Layout.STYLE-ENTRY-ROOM (Layout.styleEntriesIn w)
+
+-- The whole
+unfoldable pub sheetShape : List ℕ → Bool
+sheetShape w = countsFit w && (rowsFine w && (poolsFit w && endsMeet w))

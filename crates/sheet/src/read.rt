@@ -1,0 +1,363 @@
+// What is read out of a sheet: `StyleCascade::is_empty`, `MatchRule` by number, direct styles.
+use crate::CombinatorAnswer;
+use crate::Counting;
+use crate::DirectStyle;
+use crate::Emptiness;
+use crate::EntryAnswer;
+use crate::MatchRule;
+use crate::RuleAnswer;
+use crate::StepAnswer;
+use crate::StepVerdict;
+use crate::StyleAnswer;
+use crate::layout;
+use crate::shape::is_sheet;
+use crate::shape::step_place;
+use lent::Refusal;
+use lent::lists::Column;
+use lent::lists::cell;
+use lent::lists::start_of;
+use lent::words::wide;
+use lent::words::word;
+use selector::Specificity;
+use selector::Weighing;
+use typed::SelectorStep;
+ghost use mathlib.Core.Path.{_≡_};
+ghost use mathlib.Core.Bool.{true, cond};
+ghost use mathlib.Core.Option.{some};
+ghost use mathlib.Core.List.{[], _∷_};
+ghost use Prim.Native.Nat.{ℕ, suc, _+_, _-_, _≤_, _<_};
+ghost use lib.ListN.{length, getD, getElem?};
+ghost use Rattle.theory.specs.Weight.{weightOf};
+ghost use Rattle.lent.specs.Refusals.{answered};
+ghost use Rattle.lent.specs.Pool.{endsIn, startOf};
+ghost use Rattle.selector.specs.Rows.{rowAt};
+ghost use Rattle.selector.specs.Weighing.{Counted, weighingTold, weightTold};
+ghost use Rattle.typed.specs.Typed.{asking};
+ghost use Rattle.typed.specs.declared.TypeChoice.{TypeChoice};
+ghost use Rattle.typed.specs.declared.PartChoice.{PartChoice};
+ghost use Rattle.sheet.specs.Layout.{rulesIn, stepsIn, stylesIn, stepPlace, ENTRY, ENTRY-ROOM, STYLE-ENTRY, STYLE-ENTRY-ROOM};
+ghost use Rattle.sheet.specs.Sheets.{partAt, ruleAt, styleAt, entryAt, countsFor, ruleStepEnds, ruleEntryEnds, styleEntryEnds};
+ghost use Rattle.sheet.specs.Shape.{sheetShape};
+ghost use Rattle.sheet.specs.Reading.{countingTold, emptinessTold, ruleTold, styleTold, entryTold, combinatorTold, sheetVerdict, ruleVerdict, weightVerdict, emptinessOf, ruleNumbers, styleNumbers, entryNumbers, combinatorNumbers, styleThere, StepRead, Weighed};
+
+// 11, then 9.
+fn rule_verdict(sheet: &[u32], number: u32) -> u32
+    ensures { λ r. ⌜ r ≡ ruleVerdict (now (sheet .entry)) number ⌝ }
+{
+    if !is_sheet(sheet) {
+        return 11;
+    }
+    if word(sheet, layout::RULES) <= number {
+        return 9;
+    }
+    0
+}
+
+pub fn rule_count(sheet: &[u32]) -> Counting
+    ensures { λ r. ⌜ countingTold r ≡ answered (sheetVerdict (now (sheet .entry))) (0 ∷ rulesIn (now (sheet .entry)) ∷ []) ⌝ }
+{
+    if !is_sheet(sheet) {
+        return Counting::Refused(Refusal::BrokenShape);
+    }
+    Counting::Count(word(sheet, layout::RULES))
+}
+
+pub fn style_count(sheet: &[u32]) -> Counting
+    ensures { λ r. ⌜ countingTold r ≡ answered (sheetVerdict (now (sheet .entry))) (0 ∷ stylesIn (now (sheet .entry)) ∷ []) ⌝ }
+{
+    if !is_sheet(sheet) {
+        return Counting::Refused(Refusal::BrokenShape);
+    }
+    Counting::Count(word(sheet, layout::STYLES))
+}
+
+// `StyleCascade::is_empty`
+pub fn is_empty(sheet: &[u32]) -> Emptiness
+    ensures { λ r. ⌜ emptinessTold r ≡ emptinessOf (now (sheet .entry)) ⌝ }
+{
+    if !is_sheet(sheet) {
+        return Emptiness::Refused(Refusal::BrokenShape);
+    }
+    if word(sheet, layout::STYLES) != 0 {
+        return Emptiness::No;
+    }
+    if word(sheet, layout::RULES) != 0 {
+        return Emptiness::No;
+    }
+    Emptiness::Yes
+}
+
+// How many elements list k has.
+fn list_length(sheet: &[u32], ends: Column, k: u32) -> u32
+    ensures { λ r. ⌜ r ≡ endsIn (now (sheet .entry)) (ends .base) (ends .stride) k - startOf (endsIn (now (sheet .entry)) (ends .base) (ends .stride)) k ⌝ }
+{
+    let from = start_of(sheet, ends, k);
+    let to = cell(sheet, ends, k);
+    if to < from {
+        return 0;
+    }
+    to - from
+}
+
+// Rule by number: origin, source index, order, and how many steps and entries it has.
+pub fn rule(sheet: &[u32], number: u32) -> RuleAnswer
+    ensures { λ r. ⌜ ruleTold r ≡ answered (ruleVerdict (now (sheet .entry)) number) (ruleNumbers (ruleAt (now (sheet .entry)) number)) ⌝ }
+{
+    let v = rule_verdict(sheet, number);
+    if v != 0 {
+        return RuleAnswer::Refused(Refusal::of(v));
+    }
+    RuleAnswer::Rule(match_rule(sheet, number))
+}
+
+fn match_rule(sheet: &[u32], number: u32) -> MatchRule
+    ensures { λ r. ⌜ ruleTold (RuleAnswer.Rule r) ≡ ruleNumbers (ruleAt (now (sheet .entry)) number) ⌝ }
+{
+    let origins = Column {
+        base: layout::RULE_ORIGIN,
+        stride: layout::RULE_WORDS,
+    };
+    let sources = Column {
+        base: layout::RULE_SOURCE,
+        stride: layout::RULE_WORDS,
+    };
+    let orders = Column {
+        base: layout::RULE_ORDER,
+        stride: layout::RULE_WORDS,
+    };
+    let steps = Column {
+        base: layout::RULE_STEP_END,
+        stride: layout::RULE_WORDS,
+    };
+    let entries = Column {
+        base: layout::RULE_ENTRY_END,
+        stride: layout::RULE_WORDS,
+    };
+    MatchRule {
+        origin: cell(sheet, origins, number),
+        source_index: cell(sheet, sources, number),
+        order: cell(sheet, orders, number),
+        step_count: list_length(sheet, steps, number),
+        entry_count: list_length(sheet, entries, number),
+    }
+}
+
+fn no_step(verdict: StepVerdict) -> StepAnswer
+    ensures { λ r. ⌜ (r .verdict ≡ verdict) × (r .step ≡ asking TypeChoice.Unset PartChoice.Unset) ⌝ }
+{
+    let any = SelectorStep::any();
+    StepAnswer { verdict, step: any }
+}
+
+// Step i of a rule.
+pub fn rule_step(sheet: &[u32], number: u32, i: u32) -> StepAnswer
+    ensures { λ r. ⌜ StepRead (now (sheet .entry)) number i r ⌝ }
+{
+    let steps = Column {
+        base: layout::RULE_STEP_END,
+        stride: layout::RULE_WORDS,
+    };
+    let v = rule_verdict(sheet, number);
+    if v != 0 {
+        return no_step(StepVerdict::Refused(Refusal::of(v)));
+    }
+    if list_length(sheet, steps, number) <= i {
+        return no_step(StepVerdict::Absent);
+    }
+    let step = SelectorStep::from_row(sheet, step_place(start_of(sheet, steps, number) + i));
+    StepAnswer {
+        verdict: StepVerdict::Found,
+        step,
+    }
+}
+
+// The combinator between steps i and i + 1 of a rule.
+pub fn rule_combinator(sheet: &[u32], number: u32, i: u32) -> CombinatorAnswer
+    ensures { λ r. ⌜ combinatorTold r ≡ answered (ruleVerdict (now (sheet .entry)) number) (combinatorNumbers (getElem? (ruleAt (now (sheet .entry)) number .selector) (suc i))) ⌝ }
+{
+    let steps = Column {
+        base: layout::RULE_STEP_END,
+        stride: layout::RULE_WORDS,
+    };
+    let v = rule_verdict(sheet, number);
+    if v != 0 {
+        return CombinatorAnswer::Refused(Refusal::of(v));
+    }
+    let n = list_length(sheet, steps, number);
+    if n <= i {
+        return CombinatorAnswer::Absent;
+    }
+    let next = i + 1;
+    if n <= next {
+        return CombinatorAnswer::Absent;
+    }
+    combinator_before(sheet, start_of(sheet, steps, number) + next)
+}
+
+fn combinator_before(sheet: &[u32], s: u32) -> CombinatorAnswer
+    ensures { λ r. ⌜ combinatorTold r ≡ combinatorNumbers (some (partAt (now (sheet .entry)) s)) ⌝ }
+{
+    let combinators = Column {
+        base: layout::STEP_COMBINATOR,
+        stride: layout::STEP_WORDS,
+    };
+    if cell(sheet, combinators, s) == 0 {
+        return CombinatorAnswer::Child;
+    }
+    CombinatorAnswer::Descendant
+}
+
+// Entry e of the pool at `base`.
+fn entry_at(sheet: &[u32], base: usize, room: usize, e: u32) -> EntryAnswer
+    requires { ⌜ (base ≤ 100000) × (room ≤ 4096) × (getD (now sheet) (base + e) 0 ≤ 65535) ⌝ }
+    ensures { λ r. ⌜ entryTold r ≡ entryNumbers (some (entryAt (now (sheet .entry)) base room e)) ⌝ }
+{
+    let at = base + wide(e);
+    EntryAnswer::Entry {
+        property: word(sheet, at) as u16,
+        kind: word(sheet, at + room),
+        number: word(sheet, at + 2 * room),
+    }
+}
+
+// Entry i of a rule.
+pub fn rule_entry(sheet: &[u32], number: u32, i: u32) -> EntryAnswer
+    ensures { λ r. ⌜ entryTold r ≡ answered (ruleVerdict (now (sheet .entry)) number) (entryNumbers (getElem? (ruleAt (now (sheet .entry)) number .entries) i)) ⌝ }
+{
+    let entries = Column {
+        base: layout::RULE_ENTRY_END,
+        stride: layout::RULE_WORDS,
+    };
+    let v = rule_verdict(sheet, number);
+    if v != 0 {
+        return EntryAnswer::Refused(Refusal::of(v));
+    }
+    if list_length(sheet, entries, number) <= i {
+        return EntryAnswer::Absent;
+    }
+    entry_at(
+        sheet,
+        layout::ENTRY,
+        layout::ENTRY_ROOM,
+        start_of(sheet, entries, number) + i,
+    )
+}
+
+// A direct style by number.
+pub fn style(sheet: &[u32], number: u32) -> StyleAnswer
+    ensures { λ r. ⌜ styleTold r ≡ styleThere (now (sheet .entry)) number (styleNumbers (styleAt (now (sheet .entry)) number)) ⌝ }
+{
+    if !is_sheet(sheet) {
+        return StyleAnswer::Refused(Refusal::BrokenShape);
+    }
+    if word(sheet, layout::STYLES) <= number {
+        return StyleAnswer::Absent;
+    }
+    StyleAnswer::Style(direct_style(sheet, number))
+}
+
+fn direct_style(sheet: &[u32], number: u32) -> DirectStyle
+    ensures { λ r. ⌜ styleTold (StyleAnswer.Style r) ≡ styleNumbers (styleAt (now (sheet .entry)) number) ⌝ }
+{
+    let origins = Column {
+        base: layout::STYLE_ORIGIN,
+        stride: layout::STYLE_WORDS,
+    };
+    let sources = Column {
+        base: layout::STYLE_SOURCE,
+        stride: layout::STYLE_WORDS,
+    };
+    let entries = Column {
+        base: layout::STYLE_ENTRY_END,
+        stride: layout::STYLE_WORDS,
+    };
+    DirectStyle {
+        origin: cell(sheet, origins, number),
+        source_index: cell(sheet, sources, number),
+        entry_count: list_length(sheet, entries, number),
+    }
+}
+
+// Entry i of a direct style.
+pub fn style_entry(sheet: &[u32], number: u32, i: u32) -> EntryAnswer
+    ensures { λ r. ⌜ entryTold r ≡ styleThere (now (sheet .entry)) number (entryNumbers (getElem? (styleAt (now (sheet .entry)) number .entries) i)) ⌝ }
+{
+    let entries = Column {
+        base: layout::STYLE_ENTRY_END,
+        stride: layout::STYLE_WORDS,
+    };
+    if !is_sheet(sheet) {
+        return EntryAnswer::Refused(Refusal::BrokenShape);
+    }
+    if word(sheet, layout::STYLES) <= number {
+        return EntryAnswer::Absent;
+    }
+    if list_length(sheet, entries, number) <= i {
+        return EntryAnswer::Absent;
+    }
+    entry_at(
+        sheet,
+        layout::STYLE_ENTRY,
+        layout::STYLE_ENTRY_ROOM,
+        start_of(sheet, entries, number) + i,
+    )
+}
+
+// The counts of step s: its ids are sets already.
+fn step_counts(sheet: &[u32], s: u32) -> Specificity
+    requires { ⌜ (sheetShape (now sheet) ≡ true) × (s < stepsIn (now sheet)) ⌝ }
+    ensures { λ r. ⌜ Counted (rowAt 8 (now (sheet .entry)) (stepPlace s)) r ⌝ }
+{
+    let at = step_place(s);
+    Specificity(
+        word(sheet, at + 5),
+        word(sheet, at + 4),
+        word(sheet, at + 2),
+        word(sheet, at),
+    )
+}
+
+// Each count summed over a rule's steps.
+fn sum(sheet: &[u32], number: u32) -> Specificity
+    requires { ⌜ (sheetShape (now sheet) ≡ true) × (number < rulesIn (now sheet)) ⌝ }
+    ensures { λ r. ⌜ Weighed (countsFor (ruleAt (now (sheet .entry)) number .selector)) r ⌝ }
+{
+    let steps = Column {
+        base: layout::RULE_STEP_END,
+        stride: layout::RULE_WORDS,
+    };
+    let from = start_of(sheet, steps, number);
+    let to = cell(sheet, steps, number);
+    let mut pseudos: u32 = 0;
+    let mut classes: u32 = 0;
+    let mut parts: u32 = 0;
+    let mut types: u32 = 0;
+    let mut s = from;
+    while s < to {
+        let c = step_counts(sheet, s);
+        pseudos += c.0;
+        classes += c.1;
+        parts += c.2;
+        types += c.3;
+        s += 1;
+    }
+    Specificity(pseudos, classes, parts, types)
+}
+
+// The weight of a rule, in ranking 0 or 1.
+pub fn rule_weight(sheet: &[u32], number: u32, ranking: u32) -> Weighing
+    ensures { λ r. ⌜ weighingTold r ≡ answered (weightVerdict (now (sheet .entry)) number ranking) (weightTold (weightOf ranking (countsFor (ruleAt (now (sheet .entry)) number .selector)))) ⌝ }
+{
+    let v = rule_verdict(sheet, number);
+    if v != 0 {
+        return Weighing::Refused(Refusal::of(v));
+    }
+    if 1 < ranking {
+        return Weighing::Refused(Refusal::CodeOutOfRange);
+    }
+    let s = sum(sheet, number);
+    if ranking == 0 {
+        return Weighing::Weighs(s);
+    }
+    Weighing::Weighs(Specificity(s.1 + s.0, s.3 + s.2, 0, 0))
+}

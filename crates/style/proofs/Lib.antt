@@ -1,0 +1,4 @@
+pub mod CheckLaws
+pub mod LookLaws
+pub mod Answers
+pub mod Distinct
