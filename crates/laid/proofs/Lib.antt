@@ -2,3 +2,4 @@ pub mod Frame
 pub mod Reading
 pub mod Shaping
 pub mod Emptied
+pub mod Held

@@ -119,7 +119,7 @@ module _ (w : List ℕ) (room : Layout.SHEET-WORDS ≤ length w) (t : Ended w) w
     style-length : length (between (entryAt w Layout.STYLE-ENTRY Layout.STYLE-ENTRY-ROOM) (styleEntryEnds w) d) ≡ styleEntryEnds w d - startOf (styleEntryEnds w) d
     style-length = length-spread _ _ _
 
-    style-fits : StyleShaped w d → FitStyle (styleAt w d)
+    pub style-fits : StyleShaped w d → FitStyle (styleAt w d)
     unfolding styleAt
     style-fits q = record {
       origin-fits = q .origin;
@@ -149,7 +149,7 @@ module _ (w : List ℕ) (room : Layout.SHEET-WORDS ≤ length w) (t : Ended w) w
     rule-length : length (between (entryAt w Layout.ENTRY Layout.ENTRY-ROOM) (ruleEntryEnds w) r) ≡ ruleEntryEnds w r - startOf (ruleEntryEnds w) r
     rule-length = length-spread _ _ _
 
-    rule-fits : RuleShaped w r → FitRule (ruleAt w r)
+    pub rule-fits : RuleShaped w r → FitRule (ruleAt w r)
     unfolding ruleAt
     rule-fits q = record {
       origin-fits = q .origin;

@@ -1,6 +1,6 @@
 -- Laws of the refusals' numbers, and of the first test that holds. Assumes nothing.
 use mathlib.Core.Path.{_≡_, refl, sym, ap, _∙_, subst}
-use mathlib.Core.Bool.{Bool, true, false, _&&_}
+use mathlib.Core.Bool.{Bool, true, false, not, _&&_, true≢false}
 use mathlib.Core.List.{List, [], _∷_, _++_, List·Memᴰ·head, List·Memᴰ·tail, List·Memᴰ·cases-cons, List·Memᴰ·not-nil}
 use mathlib.Core.Logic.{_⊎_, inl, inr, ⊎-elim}
 use Prim.Native.Nat.{ℕ, zero, suc, _+_, _≤_, _<_}
@@ -9,11 +9,11 @@ use native.Mathlib.Numerals.{add-one}
 use native.Mathlib.Omega.{arith}
 use native.Mathlib.Decide.{decLt}
 use lib.ListN.{getD, List·getD-eq-default}
-use lib.Dec.{ltb}
-use borrow.Author.Tests.{ltb-true}
+use lib.Dec.{ltb, eqb}
+use borrow.Author.Tests.{ltb-true, eq-eqb}
 use Rattle.theory.specs.Lists.{_∈_}
 use Rattle.theory.proofs.Lists.{and-left, and-right}
-use Rattle.lent.specs.Refusals.{numberOf, added, told, refusals, refusalOf, Check, firstOf, checksBelow}
+use Rattle.lent.specs.Refusals.{numberOf, added, told, refusals, refusalOf, Check, check, firstOf, checksBelow}
 use Rattle.lent.specs.declared.Refusal.{Refusal}
 use Rattle.lent.specs.declared.Refusal.the-variants.{NotAscending, OverSize, CombinatorCount, NotAState, NoRoom, CodeOutOfRange, NoSourceIndex, BufferTooShort, NoSuchRule, BadRecord, BrokenShape}
 
@@ -283,3 +283,65 @@ module _ {checks : ℕ → List Check} {n k : ℕ} (t : Turns checks n k) where
   turns-end r rest h e = first-go (checksBelow n checks) rest 0 r (turns-done h) refl (positive-below checks (t .numbers) n) e
 
 pub ruleset turns = (turns-start, turns-next, turns-fails, turns-done, turns-stop, turns-end)
+
+-- ---- the first that fails, by the tests in turn
+
+pub first-hit : (k : ℕ) (b t : Bool) (l : List Check) → b ≡ t → b ≡ true → k ≡ firstOf (check k t ∷ l)
+first-hit k b t l e f = sym (first-here (check k t) l (sym e ∙ f))
+
+pub first-pass : (k r : ℕ) (b t : Bool) (l : List Check) → b ≡ t → b ≡ false → r ≡ firstOf l → r ≡ firstOf (check k t ∷ l)
+first-pass k r b t l e f g = g ∙ sym (first-next (check k t) l (sym e ∙ f))
+
+pub first-end : 0 ≡ firstOf []
+unfolding firstOf
+first-end = refl
+
+pub ruleset firsts = (first-hit, first-pass, first-end)
+
+pub first-under : (k n : ℕ) (t : Bool) (l : List Check) → k < n → firstOf l < n → firstOf (check k t ∷ l) < n
+unfolding firstOf
+first-under k n true l h g = h
+first-under k n false l h g = g
+
+-- the first test of an accepted call does not hold, nor does any other
+pub first-clear : (k : ℕ) (t : Bool) (l : List Check) → 0 < k → firstOf (check k t ∷ l) ≡ 0 → (t ≡ false) × (firstOf l ≡ 0)
+unfolding firstOf
+first-clear k true l h e = absurd (omega arith)
+first-clear k false l h e = (refl, e)
+
+-- ---- numbers that are told alone
+
+-- a number of 01's table, but for 10
+abbrev pub alone : ℕ → Bool
+alone n = ltb 0 n && (ltb n 12 && not (eqb n 10))
+
+abbrev pub named : List Check → Bool
+named [] = true
+named (c ∷ l) = alone (c .number) && named l
+
+pub named-append : (a b : List Check) → named a ≡ true → named b ≡ true → named (a ++ b) ≡ true
+named-append [] b p q = q
+named-append (c ∷ a) b p q = rw (and-left (alone (c .number)) _ p) (named-append a b (and-right (alone (c .number)) _ p) q)
+
+pub named-below : (checks : ℕ → List Check) → ((k : ℕ) → named (checks k) ≡ true) → (n : ℕ) → named (checksBelow n checks) ≡ true
+unfolding checksBelow
+named-below checks p zero = refl
+named-below checks p (suc n) = named-append (checksBelow n checks) (checks n) (named-below checks p n) (p n)
+
+told-alone : (n : ℕ) → alone n ≡ true → told (refusalOf n) ≡ n ∷ []
+told-alone n e =
+    let a = ltb-true 0 n (and-left (ltb 0 n) _ e) in
+    let b = ltb-true n 12 (and-left (ltb n 12) _ (and-right (ltb 0 n) _ e)) in
+    told-of n a b (λ q. eqb-apart n 10 (and-right (ltb n 12) _ (and-right (ltb 0 n) _ e)) q)
+  where
+    eqb-apart : (m k : ℕ) → not (eqb m k) ≡ true → m ≡ k → ⊥
+    eqb-apart m k f q = true≢false (sym f ∙ ap not (eq-eqb m k q))
+
+-- a refusal out of such a list
+pub told-first : (l : List Check) (v : ℕ) → named l ≡ true → v ≡ firstOf l → (v ≡ 0 → ⊥) → told (refusalOf v) ≡ v ∷ []
+told-first [] v n e h = absurd (h (e ∙ unfold firstOf in refl))
+told-first (c ∷ l) v n e h = by (c .fails) refl (λ f. told-first l v (and-right (alone (c .number)) _ n) (e ∙ first-next c l f) h)
+  where
+    by : (t : Bool) → c .fails ≡ t → (c .fails ≡ false → told (refusalOf v) ≡ v ∷ []) → told (refusalOf v) ≡ v ∷ []
+    by true f r = let q : v ≡ c .number = e ∙ first-here c l f in rw q (told-alone (c .number) (and-left (alone (c .number)) _ n))
+    by false f r = r f

@@ -10,7 +10,7 @@ use borrow.Author.Tests.{eq-eqb, ne-eqb, eqb-true, not-false}
 use Rattle.theory.proofs.Lists.{le-or-lt}
 use Rattle.lent.specs.declared.Refusal.{Refusal}
 use Rattle.lent.specs.Refusals.{firstOf, refusalOf, told, answered}
-use Rattle.lent.proofs.Refusals.{told-of}
+use Rattle.lent.proofs.Refusals.{told-of, first-under, first-clear}
 use Rattle.lent.proofs.All.{all-at}
 use Rattle.selector.specs.declared.Matching.the-variants as matching
 use Rattle.selector.specs.declared.Diagnosis.{Diagnosis}
@@ -19,7 +19,7 @@ use Rattle.selector.specs.Rows.{subjectAt}
 use Rattle.selector.specs.Checks.{selectorOver, pathOver, combinatorsOff, codesOver, tagsAscend, subjectsOff, pathVerdict}
 use Rattle.selector.specs.Matching.{fitsFrom, hitAt, farAt, fits, matchingTold, matchingOf}
 use Rattle.selector.specs.Diagnosing.{judge, diagnose, diagnosisTold, diagnosisOf}
-use Rattle.selector.proofs.CheckLaws.{over-steps, combinators-there, places-few, first-under, first-clear}
+use Rattle.selector.proofs.CheckLaws.{over-steps, combinators-there, places-few}
 
 -- a place whose row's ids ascend, where no subject is off
 pub row-sorted : (path : List ℕ) (m i : ℕ) → i < m → subjectsOff path m ≡ false → tagsAscend (subjectAt path i) ≡ true

@@ -9,11 +9,11 @@ use lib.ListN.{length, getD}
 use lib.Dec.{ltb, leb, eqb}
 use borrow.Author.Tests.{lt-ltb, le-ltb, le-leb, lt-leb, ltb-false, not-false}
 use Rattle.theory.specs.Lists.{ascends}
-use Rattle.theory.proofs.Lists.{le-or-lt}
+use Rattle.theory.proofs.Lists.{or-first, or-second, le-or-lt}
 use Rattle.lent.specs.All.{allBelow}
 use Rattle.lent.specs.Refusals.{check, Check, firstOf}
 use Rattle.lent.proofs.All.{Sofar, sofar-start, sofar-done, sofar-more, sofar-fails}
-use Rattle.lent.proofs.Refusals.{first-here, first-next}
+use Rattle.lent.proofs.Refusals.{first-under, first-clear}
 use Rattle.selector.specs.Rows.{wordsFrom, rowAt}
 use Rattle.selector.specs.Checks.{rowFits, selectorOver, pathOver, combinatorsOff, codesOver, tagsAscend, selectorVerdict}
 
@@ -70,14 +70,6 @@ pub ruleset coded = (coded-start, coded-end, coded-next, coded-over)
 
 -- ---- counts over their sizes
 
-or-first : (a b : Bool) → (a || b) ≡ false → a ≡ false
-or-first true b e = e
-or-first false b e = refl
-
-or-second : (a b : Bool) → (a || b) ≡ false → b ≡ false
-or-second true b e = cc
-or-second false b e = e
-
 module _ (steps : List ℕ) (n : ℕ) (combinators : List ℕ) (c : ℕ) where
   pub over-steps : 8 < n → true ≡ selectorOver steps n combinators c
   unfolding selectorOver
@@ -124,29 +116,6 @@ module _ (path : List ℕ) (m : ℕ) where
 
 pub none-off : (n c : ℕ) → n ≡ 0 → not (eqb c 0) ≡ combinatorsOff n c
 none-off n c e = rw e
-
-pub first-hit : (k : ℕ) (b t : Bool) (l : List Check) → b ≡ t → b ≡ true → k ≡ firstOf (check k t ∷ l)
-first-hit k b t l e f = sym (first-here (check k t) l (sym e ∙ f))
-
-pub first-pass : (k r : ℕ) (b t : Bool) (l : List Check) → b ≡ t → b ≡ false → r ≡ firstOf l → r ≡ firstOf (check k t ∷ l)
-first-pass k r b t l e f g = g ∙ sym (first-next (check k t) l (sym e ∙ f))
-
-pub first-end : 0 ≡ firstOf []
-unfolding firstOf
-first-end = refl
-
-pub ruleset firsts = (first-hit, first-pass, first-end)
-
-pub first-under : (k n : ℕ) (t : Bool) (l : List Check) → k < n → firstOf l < n → firstOf (check k t ∷ l) < n
-unfolding firstOf
-first-under k n true l h g = h
-first-under k n false l h g = g
-
--- the first test of an accepted call does not hold, nor does any other
-pub first-clear : (k : ℕ) (t : Bool) (l : List Check) → 0 < k → firstOf (check k t ∷ l) ≡ 0 → (t ≡ false) × (firstOf l ≡ 0)
-unfolding firstOf
-first-clear k true l h e = absurd (omega arith)
-first-clear k false l h e = (refl, e)
 
 -- the two checks of the combinators have their verdict, and one more follows
 pub first-kept : (s t u : Bool) (v : ℕ) → v ≡ firstOf (check 3 s ∷ check 6 t ∷ []) → (v ≡ 0 → ⊥) → v ≡ firstOf (check 3 s ∷ check 6 t ∷ check 1 u ∷ [])

@@ -19,10 +19,9 @@ use Rattle.lent.specs.Pool.{endsIn, startOf}
 use Rattle.lent.specs.Refusals.{told, refusalOf, check, firstOf, answered}
 use Rattle.lent.specs.declared.Refusal.{Refusal}
 use Rattle.lent.specs.declared.Refusal.the-variants.{BrokenShape, CodeOutOfRange}
-use Rattle.lent.proofs.Refusals.{first-stop, first-go}
+use Rattle.lent.proofs.Refusals.{first-stop, first-go, first-clear}
 use Rattle.selector.specs.Weighing.{weightTold}
 use Rattle.selector.specs.declared.Specificity.{Specificity}
-use Rattle.selector.proofs.CheckLaws.{first-clear}
 use Rattle.typed.specs.Typed.{asking, stepFrom}
 use Rattle.typed.specs.declared.SelectorStep.{SelectorStep}
 use Rattle.typed.specs.declared.TypeChoice.{TypeChoice}

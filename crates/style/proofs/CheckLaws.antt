@@ -9,20 +9,12 @@ use lib.Seq.{sets, sets-eq, take-at, length-take-le}
 use lib.Dec.{ltb, leb}
 use borrow.Author.Tests.{lt-ltb, le-ltb, ltb-false, leb-true, not-false}
 use Rattle.theory.specs.Lists.{ascends, atMost}
-use Rattle.theory.proofs.Lists.{and-left, and-right}
+use Rattle.theory.proofs.Lists.{or-first, or-second, and-left, and-right}
 use Rattle.lent.specs.Refusals.{check, Check, firstOf}
-use Rattle.lent.proofs.Refusals.{first-here, first-next}
+use Rattle.lent.proofs.Refusals.{first-under, first-clear}
 use Rattle.style.specs.Checks.{entriesOver, kindsOver, propertiesOff, styleVerdict}
 
 -- ---- counts over their sizes
-
-or-first : (a b : Bool) → (a || b) ≡ false → a ≡ false
-or-first true b e = e
-or-first false b e = refl
-
-or-second : (a b : Bool) → (a || b) ≡ false → b ≡ false
-or-second true b e = cc
-or-second false b e = e
 
 -- a count that is within its size and the lists
 pub record Within (properties kinds numbers : List ℕ) (n : ℕ) : Type 0 where
@@ -105,28 +97,6 @@ unfolding propertiesOff
 off-are properties words l n b g h w e f = rw (f, e, widened properties words n w g h)
 
 -- ---- the first that fails
-
-pub first-hit : (k : ℕ) (b t : Bool) (l : List Check) → b ≡ t → b ≡ true → k ≡ firstOf (check k t ∷ l)
-first-hit k b t l e f = sym (first-here (check k t) l (sym e ∙ f))
-
-pub first-pass : (k r : ℕ) (b t : Bool) (l : List Check) → b ≡ t → b ≡ false → r ≡ firstOf l → r ≡ firstOf (check k t ∷ l)
-first-pass k r b t l e f g = g ∙ sym (first-next (check k t) l (sym e ∙ f))
-
-pub first-end : 0 ≡ firstOf []
-unfolding firstOf
-first-end = refl
-
-pub ruleset firsts = (first-hit, first-pass, first-end)
-
-first-under : (k n : ℕ) (t : Bool) (l : List Check) → k < n → firstOf l < n → firstOf (check k t ∷ l) < n
-unfolding firstOf
-first-under k n true l h g = h
-first-under k n false l h g = g
-
-first-clear : (k : ℕ) (t : Bool) (l : List Check) → 0 < k → firstOf (check k t ∷ l) ≡ 0 → (t ≡ false) × (firstOf l ≡ 0)
-unfolding firstOf
-first-clear k true l h e = absurd (omega arith)
-first-clear k false l h e = (refl, e)
 
 -- what a style that is not refused keeps to
 pub record Accepted (properties kinds numbers : List ℕ) (n : ℕ) : Type 0 where

@@ -26,7 +26,7 @@ nobody : {A : Type 0} (a : A) → _≡_ {A = Option A} none (some a) → ⊥
 nobody a e = let z : _≡_ {A = ℕ} 0 1 = cc in omega arith
 
 -- a member is one at some position
-at-in : {A : Type 0} (l : List A) (j : ℕ) (a : A) → getElem? l j ≡ some a → a ∈ l
+pub at-in : {A : Type 0} (l : List A) (j : ℕ) (a : A) → getElem? l j ≡ some a → a ∈ l
 at-in [] j a e = absurd (nobody a e)
 at-in (b ∷ l) zero a e = let s : a ≡ b = cc in List·Memᴰ·head s
 at-in (b ∷ l) (suc j) a e = List·Memᴰ·tail (at-in l j a e)

@@ -3,10 +3,11 @@
 use std::collections::VecDeque;
 use std::iter::{self, Peekable};
 
-use crate::generate::paths::{fixed_ends, random_end};
+use crate::builds::{BuildCase, Item, Machine, answer_stream as answer_builds};
 use crate::generate::random::Random;
+use crate::generate::{builds, paths};
 use crate::paths::{PathCase, answer_stream};
-use crate::shrink::{Still, shrink_case, shrink_path};
+use crate::shrink::{Still, shrink_build, shrink_case, shrink_path};
 use crate::words::{Case, answer_batch};
 
 /// A form in which cases are given to a command.
@@ -17,8 +18,13 @@ pub trait Form: Clone {
     /// The case in words, as it stands in a batch.
     fn words(&self) -> Vec<u32>;
 
-    /// What is to be printed for a batch, case by case.
+    /// What is to be printed for a batch, in pieces.
     fn answers(batch: &[u8]) -> Vec<String>;
+
+    /// What is to be printed for a batch, case by case, and for its tail.
+    fn answers_to(batch: &Batch<Self>) -> Vec<String> {
+        Self::answers(&batch.bytes())
+    }
 
     /// The smallest case found that still shows a difference.
     fn shrink(self, still: Still<'_, Self>) -> Result<Self, String>;
@@ -75,6 +81,47 @@ impl Form for PathCase {
     fn told(&self) -> String {
         let words = self.words();
         format!("case of {} words:{}", words.len(), spaced(&words))
+    }
+}
+
+impl Form for BuildCase {
+    /// The longest fixed case has some 3 MB.
+    const LONGEST_BATCH: usize = 4 * 1024 * 1024;
+
+    fn words(&self) -> Vec<u32> {
+        BuildCase::words(self)
+    }
+
+    fn answers(batch: &[u8]) -> Vec<String> {
+        vec![answer_builds(batch)]
+    }
+
+    fn answers_to(batch: &Batch<Self>) -> Vec<String> {
+        let mut machine = Machine::default();
+        let cases = batch.cases.iter();
+        let mut answers: Vec<String> = cases
+            .map(|case| machine.stream(&bytes_of(&case.words())))
+            .collect();
+        answers.push(machine.stream(&batch.tail));
+        answers
+    }
+
+    fn shrink(self, still: Still<'_, Self>) -> Result<Self, String> {
+        shrink_build(self, still)
+    }
+
+    fn told(&self) -> String {
+        let item = |item: &Item| {
+            let words = spaced(&item.payload);
+            format!("op {}, {} words:{words}", item.op, item.payload.len())
+        };
+        let items: Vec<String> = self.items.iter().map(item).collect();
+        format!("case of {} items:\n{}", items.len(), items.join("\n"))
+    }
+
+    fn bytes(&self) -> usize {
+        let words = self.items.iter().map(|item| 2 + item.payload.len());
+        4 * words.sum::<usize>()
     }
 }
 
@@ -168,9 +215,25 @@ pub fn path_batches(
     cases: impl Iterator<Item = PathCase>,
     seed: u64,
 ) -> impl Iterator<Item = Batch<PathCase>> {
+    batches_with_ends(cases, seed, paths::fixed_ends(), paths::random_end)
+}
+
+/// Batches of builds: the same, with their own ends.
+pub fn build_batches(
+    cases: impl Iterator<Item = BuildCase>,
+    seed: u64,
+) -> impl Iterator<Item = Batch<BuildCase>> {
+    batches_with_ends(cases, seed, builds::fixed_ends(), builds::random_end)
+}
+
+fn batches_with_ends<T: Form>(
+    cases: impl Iterator<Item = T>,
+    seed: u64,
+    mut ends: Vec<Vec<u8>>,
+    random_end: fn(&mut Random) -> Vec<u8>,
+) -> impl Iterator<Item = Batch<T>> {
     let mut cases = cases.peekable();
     let mut random = Random::new(!seed);
-    let mut ends = fixed_ends();
     for place in (1..ends.len()).rev() {
         ends.swap(place, random.below(place + 1));
     }

@@ -131,10 +131,12 @@ struct Found {
 
 /// What is printed after the lines of a case that differs, at the most.
 const LINES_TOLD: usize = 6;
+/// And of these before the line that differs, at the most.
+const LINES_BEFORE: usize = 3;
 
 fn batch_difference<T: Form>(batch: &Batch<T>, command: &str) -> Result<Option<Found>, String> {
     let bytes = batch.bytes();
-    let answers = T::answers(&bytes);
+    let answers = T::answers_to(batch);
     let output = run(command, &bytes)?;
     let Some(line) = first_difference(answers.concat().as_bytes(), &output) else {
         return Ok(None);
@@ -147,26 +149,36 @@ fn batch_difference<T: Form>(batch: &Batch<T>, command: &str) -> Result<Option<F
         begin += answer.lines().count();
         case += 1;
     }
+    // Of a case with many lines those that are alike are not all told.
+    let alike = (line.number - begin).saturating_sub(LINES_BEFORE);
     let actual = String::from_utf8_lossy(&output.bytes);
-    let mut actual = told_lines(actual.lines().skip(begin));
+    let mut actual = told_lines(actual.lines().skip(begin), alike);
     if let Some(trouble) = &output.trouble {
         actual += &format!("  (and the command ended with {trouble})\n");
     }
     Ok(Some(Found {
         case,
-        expected: told_lines(answers[case..].iter().flat_map(|answer| answer.lines())),
+        expected: told_lines(
+            answers[case..].iter().flat_map(|answer| answer.lines()),
+            alike,
+        ),
         actual,
     }))
 }
 
-/// The first of some lines, each on its own line.
-fn told_lines<'a>(mut lines: impl Iterator<Item = &'a str>) -> String {
-    let mut told: String = lines
-        .by_ref()
-        .take(LINES_TOLD)
-        .map(|line| format!("  {line:.400}\n"))
-        .collect();
-    if told.is_empty() {
+/// The first of some lines after those that are left out, each on its own
+/// line.
+fn told_lines<'a>(lines: impl Iterator<Item = &'a str>, alike: usize) -> String {
+    let mut lines = lines.skip(alike);
+    let mut told = String::new();
+    if alike > 0 {
+        told += &format!("  (after {alike} lines alike)\n");
+    }
+    let before = told.len();
+    for line in lines.by_ref().take(LINES_TOLD) {
+        told += &format!("  {line:.400}\n");
+    }
+    if told.len() == before {
         told += "  (nothing)\n";
     }
     match lines.count() {

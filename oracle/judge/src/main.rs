@@ -3,6 +3,7 @@
 
 mod asking;
 mod batches;
+mod builds;
 mod compare;
 mod generate;
 mod lists;
@@ -14,6 +15,8 @@ mod sheet;
 mod shrink;
 #[cfg(test)]
 mod tests;
+#[cfg(test)]
+mod tests_of_builds;
 mod walk;
 mod words;
 
@@ -22,7 +25,8 @@ use std::io::{self, Read, Write};
 use std::path::Path;
 use std::process::ExitCode;
 
-use batches::{Batch, Form, list_batches, path_batches};
+use batches::{Batch, Form, build_batches, list_batches, path_batches};
+use builds::BuildCase;
 use compare::{compare_cases, compare_files};
 use options::{Options, What};
 use paths::PathCase;
@@ -35,21 +39,24 @@ judge: answers test cases from the published code
       one line for each case of a batch of lists
   judge paths < INPUT
       what `paths` has to print for a stream of path cases
+  judge answer builds < INPUT
+      what `builds` has to print for a stream of items about sheets
   judge walk < FILE
       what `walk` has to print for a file of house records
-  judge make lists|paths --seed N --count N
+  judge make lists|paths|builds --seed N --count N
       writes N cases to standard output, one after another
   judge make files --seed N --count N --into DIR
       writes N files of house records into DIR
-  judge compare lists|paths --run COMMAND --seed N --count N
-      gives N cases, in batches of at most 256 KiB (lists) or 1 MiB (paths),
-      to a shell command on its standard input and compares its output with
-      the judge's; some batches end inside a case or in a wrong one
+  judge compare lists|paths|builds --run COMMAND --seed N --count N
+      gives N cases, in batches of at most 256 KiB (lists), 1 MiB (paths) or
+      4 MiB (builds), to a shell command on its standard input and compares
+      its output with the judge's; some batches end inside a case or in a
+      wrong one
   judge compare files --run COMMAND --seed N --count N
       gives N files of house records to a shell command, one a run, and
       compares its output with the judge's byte for byte
-  judge store lists|paths --seed N --count N --cases FILE --answers FILE
-      writes N cases and the judge's answers to them
+  judge store lists|paths|builds --seed N --count N --cases FILE --answers FILE
+      writes N cases and the judge's answers to them; of builds only small ones
   judge --help
       this text
 
@@ -77,6 +84,7 @@ fn obey(arguments: &[String]) -> Result<ExitCode, String> {
     match words[..] {
         ["--help" | "-h" | "help"] => write(HELP.as_bytes())?,
         ["answer"] => write(Case::answers(&input()?).concat().as_bytes())?,
+        ["answer", "builds"] => write(builds::answer_stream(&input()?).as_bytes())?,
         ["paths"] => write(PathCase::answers(&input()?).concat().as_bytes())?,
         ["walk"] => write(walk::walk(&input()?).as_bytes())?,
         ["make", what, ..] => make(What::named(what)?, &words[2..])?,
@@ -120,6 +128,31 @@ fn paths(seed: u64, count: usize) -> impl Iterator<Item = PathCase> {
     stream(paths::fixed(), paths::random_case, seed, count)
 }
 
+fn builds(seed: u64, count: usize) -> impl Iterator<Item = BuildCase> {
+    use generate::{build_edges, builds, stream};
+    stream(build_edges::fixed(), builds::random_case, seed, count)
+}
+
+/// Builds of at most 4 KB: those that are stored.
+fn small_builds(seed: u64, count: usize) -> impl Iterator<Item = BuildCase> {
+    use generate::random::Random;
+    use generate::{build_edges, builds, stream};
+    fn small(case: &BuildCase) -> bool {
+        case.bytes() <= 4000
+    }
+    fn random_case(random: &mut Random) -> BuildCase {
+        loop {
+            let case = builds::random_case(random);
+            if small(&case) {
+                return case;
+            }
+        }
+    }
+    let mut fixed = build_edges::fixed();
+    fixed.retain(small);
+    stream(fixed, random_case, seed, count)
+}
+
 /// Bytes of whole cases, and what is to be printed for them, case by case.
 struct Made {
     bytes: Vec<u8>,
@@ -139,6 +172,7 @@ impl Made {
         match what {
             What::Lists => Ok(Self::of(lists(seed, count))),
             What::Paths => Ok(Self::of(paths(seed, count))),
+            What::Builds => Ok(Self::of(builds(seed, count))),
             What::Files => Err("files are not cases of a batch".to_string()),
         }
     }
@@ -167,7 +201,11 @@ fn make(what: What, words: &[&str]) -> Result<(), String> {
 
 fn store(what: What, words: &[&str]) -> Result<(), String> {
     let options = Options::read(words, &["--seed", "--count", "--cases", "--answers"])?;
-    let made = Made::new(what, options.seed()?, options.count()?)?;
+    let (seed, count) = (options.seed()?, options.count()?);
+    let made = match what {
+        What::Builds => Made::of(small_builds(seed, count)),
+        _ => Made::new(what, seed, count)?,
+    };
     write_file(Path::new(options.text("--cases")?), &made.bytes)?;
     let answers = (made.answers)(&made.bytes).concat();
     write_file(Path::new(options.text("--answers")?), answers.as_bytes())
@@ -185,6 +223,10 @@ fn compare(what: What, words: &[&str]) -> Result<ExitCode, String> {
         }
         What::Paths => {
             let batches = path_batches(paths(seed, count), seed);
+            compare_cases(name, command, seed, count, batches)?
+        }
+        What::Builds => {
+            let batches = build_batches(builds(seed, count), seed);
             compare_cases(name, command, seed, count, batches)?
         }
         What::Files => compare_files(command, seed, count, files(seed, count))?,

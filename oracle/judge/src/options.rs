@@ -7,21 +7,23 @@ use std::collections::BTreeMap;
 pub enum What {
     Lists,
     Paths,
+    Builds,
     Files,
 }
 
 impl What {
     pub fn named(name: &str) -> Result<Self, String> {
-        [Self::Lists, Self::Paths, Self::Files]
+        [Self::Lists, Self::Paths, Self::Builds, Self::Files]
             .into_iter()
             .find(|what| what.name() == name)
-            .ok_or_else(|| format!("`{name}` is none of lists, paths, files"))
+            .ok_or_else(|| format!("`{name}` is none of lists, paths, builds, files"))
     }
 
     pub fn name(self) -> &'static str {
         match self {
             Self::Lists => "lists",
             Self::Paths => "paths",
+            Self::Builds => "builds",
             Self::Files => "files",
         }
     }

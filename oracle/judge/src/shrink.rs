@@ -3,7 +3,8 @@
 //! Everything here tries something smaller and keeps it if the difference is
 //! still there. `still` answers that, and runs the command.
 
-use crate::paths::{PathCase, ROW_HEAD, STEP_IDS, SUBJECT_IDS};
+use crate::builds::{BuildCase, GROUP, Item, STYLE};
+use crate::paths::{PathCase, ROW_HEAD, STEP_IDS, STEP_ROW, SUBJECT_IDS};
 use crate::words::{Case, split};
 
 /// Whether an input still shows the difference; an error if that cannot be
@@ -210,4 +211,104 @@ fn shrink_ids(case: PathCase, still: Still<'_, PathCase>) -> Result<PathCase, St
         }
     }
     Ok(case)
+}
+
+/// The smallest case of builds found: its items first, then the words of each
+/// item, then how big they are. A payload's end reads as zeros, so words can
+/// be left out anywhere.
+pub fn shrink_build(case: BuildCase, still: Still<'_, BuildCase>) -> Result<BuildCase, String> {
+    let mut case = case;
+    loop {
+        let before = case.clone();
+        let mut whole = |items: &Vec<Item>| {
+            still(&BuildCase {
+                items: items.clone(),
+            })
+        };
+        case.items = drop_some(case.items, &mut whole)?;
+        for place in 0..case.items.len() {
+            case = shrink_rules(case, place, still)?;
+            let base = case.clone();
+            let with = |payload: &Vec<u32>| {
+                let mut case = base.clone();
+                case.items[place].payload = payload.clone();
+                case
+            };
+            let payload = case.items[place].payload.clone();
+            let payload = drop_some(payload, &mut |payload| still(&with(payload)))?;
+            let payload = lower(payload, &mut |payload| still(&with(payload)))?;
+            case = with(&payload);
+        }
+        if case == before {
+            return Ok(case);
+        }
+    }
+}
+
+/// Leaves out whole rules of a group, and entries of a style, with what they
+/// count.
+fn shrink_rules(
+    case: BuildCase,
+    place: usize,
+    still: Still<'_, BuildCase>,
+) -> Result<BuildCase, String> {
+    let item = &case.items[place];
+    // Where the lengths of the lists stand, and how much of each list belongs
+    // to each piece.
+    let (lengths, pieces): (usize, Vec<Vec<usize>>) = match (item.op, &item.payload[..]) {
+        (GROUP, [_, _, _, rules, ..]) => {
+            let rules = item.payload.get(9..9 + *rules as usize).unwrap_or(&[]);
+            let (rules, _) = rules.as_chunks::<3>();
+            let sizes = |&[steps, codes, entries]: &[u32; 3]| {
+                let [steps, codes, entries] = [steps, codes, entries].map(|count| count as usize);
+                vec![
+                    3,
+                    STEP_ROW.saturating_mul(steps),
+                    codes,
+                    entries,
+                    entries,
+                    entries,
+                ]
+            };
+            (3, rules.iter().map(sizes).collect())
+        }
+        (STYLE, [_, _, count, ..]) if *count <= 100 => (3, vec![vec![1; 3]; *count as usize]),
+        _ => return Ok(case),
+    };
+    let lists = if item.op == GROUP { 6 } else { 3 };
+    let base = case.clone();
+    let with = |kept: &Vec<usize>| {
+        let payload = &base.items[place].payload;
+        let mut begin = lengths + lists;
+        let mut head = payload[..begin.min(payload.len())].to_vec();
+        let mut words = Vec::new();
+        for list in 0..lists {
+            let length = payload.get(lengths + list).copied().unwrap_or(0) as usize;
+            let all = payload.get(begin..).unwrap_or(&[]);
+            let mut rest = &all[..length.min(all.len())];
+            begin += rest.len();
+            let before = words.len();
+            for (number, sizes) in pieces.iter().enumerate() {
+                let (piece, after) = rest.split_at(sizes[list].min(rest.len()));
+                if kept.contains(&number) {
+                    words.extend(piece);
+                }
+                rest = after;
+            }
+            words.extend(rest);
+            if let Some(word) = head.get_mut(lengths + list) {
+                *word = (words.len() - before) as u32;
+            }
+        }
+        head[2] = fewer(head[2], pieces.len(), kept);
+        let mut case = base.clone();
+        case.items[place].payload = [head, words].concat();
+        case
+    };
+    let all = (0..pieces.len()).collect();
+    let kept = drop_some(all, &mut |kept| still(&with(kept)))?;
+    if kept.len() == pieces.len() {
+        return Ok(case);
+    }
+    Ok(with(&kept))
 }

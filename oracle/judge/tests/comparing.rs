@@ -22,9 +22,13 @@ fn compare(what: &str, run: &str, count: &str) -> (Option<i32>, String) {
 
 #[test]
 fn no_difference_from_itself() {
-    for (what, run) in [("lists", "JUDGE answer"), ("paths", "JUDGE paths")] {
-        let told = format!("compared 2000 cases of {what}: no difference\n");
-        assert_eq!(compare(what, run, "2000"), (Some(0), told));
+    for (what, run, count) in [
+        ("lists", "JUDGE answer", "2000"),
+        ("paths", "JUDGE paths", "2000"),
+        ("builds", "JUDGE answer builds", "300"),
+    ] {
+        let told = format!("compared {count} cases of {what}: no difference\n");
+        assert_eq!(compare(what, run, count), (Some(0), told));
     }
     let told = "compared 100 files: no difference\n".to_string();
     assert_eq!(compare("files", "JUDGE walk", "100"), (Some(0), told));
@@ -86,6 +90,30 @@ fn planted_difference_at_the_end_of_paths_is_made_small() {
         told.contains("the empty input\nexpected:\n  (nothing)\n"),
         "{told}"
     );
+}
+
+#[test]
+fn planted_difference_in_builds_is_made_small() {
+    // A sheet that is lent, one direct style, and the sheet read.
+    let run = "JUDGE answer builds | sed 's/^s 0 0 1 0/s 0 0 1 1/'";
+    let (status, told) = compare("builds", run, "2000");
+    assert_eq!(status, Some(1));
+    let items = "case of 3 items:\nop 1, 2 words: 0 67016\nop 2, 0 words:\nop 7, 0 words:\n";
+    assert!(told.contains("builds, seed 3, case "), "{told}");
+    assert!(told.contains(items), "{told}");
+    // Far down in what is printed for a case.
+    let run = "JUDGE answer builds | sed 's/^w 2 1 0 0/w 2 0 0 0/'";
+    let (status, told) = compare("builds", run, "2000");
+    assert_eq!(status, Some(1));
+    let (_, expected) = told.split_once("expected:\n").expect("what is expected");
+    let (expected, actual) = expected.split_once("actual:\n").expect("what is printed");
+    assert!(expected.contains("  w 2 1 0 0\n"), "{told}");
+    assert!(actual.contains("  w 2 0 0 0\n"), "{told}");
+    let run = "JUDGE answer builds | sed 's/^too long/long/'";
+    let (status, told) = compare("builds", run, "2000");
+    assert_eq!(status, Some(1));
+    assert!(told.contains("at the end, bytes: "), "{told}");
+    assert!(told.contains("expected:\n  too long\n"), "{told}");
 }
 
 #[test]

@@ -1,10 +1,12 @@
 //! Cases from a seed.
 //!
-//! Each of lists, paths and files has fixed cases (all small ones, and the
+//! Each of lists, paths, builds and files has fixed cases (all small ones, and the
 //! edges of every size) and random ones (valid and damaged). A stream of
 //! cases begins with all fixed ones if they are at most half of what was
 //! asked for; otherwise every second case, by chance, is a fixed one.
 
+pub mod build_edges;
+pub mod builds;
 pub mod damage;
 pub mod files;
 pub mod lists;

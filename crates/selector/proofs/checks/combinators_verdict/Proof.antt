@@ -1,5 +1,5 @@
 use borrow.Author.Needs.{needs}
-use Rattle.selector.proofs.CheckLaws.{firsts}
+use Rattle.lent.proofs.Refusals.{firsts}
 use Rattle.selector.proofs.checks.combinators_verdict.Statement.{statement}
 use Rattle.selector.proofs.checks.combinators_verdict.Tie as tie
 

@@ -1,6 +1,7 @@
 use borrow.Author.Needs.{needs}
 use Rattle.selector.specs.Checks.{pathVerdict}
-use Rattle.selector.proofs.CheckLaws.{combinators-there, places-few, firsts, first-kept, first-after}
+use Rattle.lent.proofs.Refusals.{firsts}
+use Rattle.selector.proofs.CheckLaws.{combinators-there, places-few, first-kept, first-after}
 use Rattle.selector.proofs.checks.path_verdict.Statement.{statement}
 use Rattle.selector.proofs.checks.path_verdict.Tie as tie
 

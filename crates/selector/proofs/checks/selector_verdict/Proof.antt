@@ -1,6 +1,7 @@
 use borrow.Author.Needs.{needs}
 use Rattle.selector.specs.Checks.{selectorVerdict}
-use Rattle.selector.proofs.CheckLaws.{combinators-there, firsts}
+use Rattle.lent.proofs.Refusals.{firsts}
+use Rattle.selector.proofs.CheckLaws.{combinators-there}
 use Rattle.selector.proofs.checks.selector_verdict.Statement.{statement}
 use Rattle.selector.proofs.checks.selector_verdict.Tie as tie
 

@@ -1,6 +1,7 @@
 use borrow.Author.Needs.{needs}
 use Rattle.style.specs.Checks.{styleVerdict}
-use Rattle.style.proofs.CheckLaws.{within, firsts}
+use Rattle.lent.proofs.Refusals.{firsts}
+use Rattle.style.proofs.CheckLaws.{within}
 use Rattle.style.proofs.held.verdict.Statement.{statement}
 use Rattle.style.proofs.held.verdict.Tie as tie
 

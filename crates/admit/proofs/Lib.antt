@@ -1,0 +1,4 @@
+pub mod Ladders
+pub mod Rules
+pub mod Largest
+pub mod Sums

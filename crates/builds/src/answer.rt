@@ -1,0 +1,89 @@
+// The lines of one item.
+use crate::item::MOST;
+use crate::item::body;
+use crate::look;
+use crate::push;
+use crate::say;
+use crate::tell;
+use lent::words::put;
+use lent::words::wide;
+use lent::words::word;
+ghost use Prim.Native.Nat.{_≤_};
+ghost use lib.ListN.{length};
+
+// What is read.
+fn reading(op: u32, body: &[u32], sheet: &[u32], out: &mut [u8], at: usize) -> usize {
+    match op {
+        7 => tell::all(sheet, out, at),
+        8 => tell::one(body, sheet, out, at),
+        9 => look::source(body, sheet, out, at),
+        10 => look::lent_lists(body, out, at),
+        _ => say::one(out, at, b"op", op),
+    }
+}
+
+// What is done to the sheet, or read.
+fn on_sheet(
+    op: u32,
+    body: &[u32],
+    sheet: &mut [u32],
+    other: &[u32],
+    out: &mut [u8],
+    at: usize,
+) -> usize {
+    match op {
+        1 => push::new(sheet, out, at),
+        2..=4 => push::source(op, body, sheet, out, at),
+        5 => push::cascade(sheet, other, out, at),
+        6 => push::store(body, sheet, at),
+        _ => reading(op, body, sheet, out, at),
+    }
+}
+
+// How many words of a sheet are lent.
+fn room(rooms: &[u32], which: usize, most: usize) -> usize
+    ensures { λ r. ⌜ r ≤ most ⌝ }
+{
+    let n = wide(word(rooms, which));
+    if most < n { most } else { n }
+}
+
+// The room that the first item of a sheet says.
+fn set_room(op: u32, body: &[u32], rooms: &mut [u32]) {
+    if op == 1 {
+        put(rooms, wide(word(body, 0) % 2), word(body, 1));
+    }
+}
+
+// The two sheets, each as far as it is lent: the one that the item names, and the other.
+fn on_sheets(
+    op: u32,
+    body: &[u32],
+    first: &mut [u32],
+    second: &mut [u32],
+    rooms: &[u32],
+    out: &mut [u8],
+    at: usize,
+) -> usize {
+    let n = room(rooms, 0, first.len());
+    let m = room(rooms, 1, second.len());
+    if word(body, 0) % 2 == 0 {
+        return on_sheet(op, body, &mut first[..n], &second[..m], out, at);
+    }
+    on_sheet(op, body, &mut second[..m], &first[..n], out, at)
+}
+
+pub(crate) fn item(
+    item: &[u8],
+    first: &mut [u32],
+    second: &mut [u32],
+    rooms: &mut [u32],
+    out: &mut [u8],
+    at: usize,
+) -> usize {
+    let mut words = [0u32; MOST];
+    let n = body(item, &mut words);
+    let op = lines::word(item, 0);
+    set_room(op, &words[..n], rooms);
+    on_sheets(op, &words[..n], first, second, rooms, out, at)
+}

@@ -1,0 +1,206 @@
+// The look-ups of a style.
+use crate::item::MOST;
+use crate::lists::Lists;
+use crate::lists::half;
+use crate::lists::halves;
+use crate::lists::list;
+use crate::say;
+use crate::tell::entry_of;
+use lent::lists::part;
+use lent::words::put;
+use lent::words::wide;
+use lent::words::widen_into;
+use lent::words::word;
+use sheet::EntryAnswer;
+use style::Containing;
+use style::Length;
+use style::Place;
+use style::ResourceKey;
+use style::StyleValueKind;
+use style::StyleValueRef;
+ghost use Prim.Native.Nat.{_≤_};
+ghost use lib.ListN.{length};
+
+const LOOK: Lists = Lists {
+    lengths: 2,
+    begin: 5,
+};
+
+fn contains(out: &mut [u8], at: usize, answer: Containing) -> usize {
+    match answer {
+        Containing::Yes => say::two(out, at, b"la", 0, 1),
+        Containing::No => say::two(out, at, b"la", 0, 0),
+        Containing::Refused(refusal) => say::refused(out, at, b"la", refusal),
+    }
+}
+
+fn position(out: &mut [u8], at: usize, answer: Place) -> usize {
+    match answer {
+        Place::At(place) => say::two(out, at, b"lb", 0, place),
+        Place::Absent => say::one(out, at, b"lb", 0),
+        Place::Refused(refusal) => say::refused(out, at, b"lb", refusal),
+    }
+}
+
+fn value_kind(out: &mut [u8], at: usize, answer: StyleValueKind) -> usize {
+    match answer {
+        StyleValueKind::Value(x) => say::three(out, at, b"lc", 0, 0, x),
+        StyleValueKind::Resource(x) => say::three(out, at, b"lc", 0, 1, x),
+        StyleValueKind::Expr(x) => say::three(out, at, b"lc", 0, 2, x),
+        StyleValueKind::ResourceExpr(x) => say::three(out, at, b"lc", 0, 3, x),
+        StyleValueKind::Absent => say::one(out, at, b"lc", 0),
+        StyleValueKind::Refused(refusal) => say::refused(out, at, b"lc", refusal),
+    }
+}
+
+fn value_ref(out: &mut [u8], at: usize, answer: StyleValueRef) -> usize {
+    match answer {
+        StyleValueRef::Value(x) => say::three(out, at, b"ld", 0, 0, x),
+        StyleValueRef::Resource(x) => say::three(out, at, b"ld", 0, 1, x),
+        StyleValueRef::Nothing => say::one(out, at, b"ld", 0),
+        StyleValueRef::Refused(refusal) => say::refused(out, at, b"ld", refusal),
+    }
+}
+
+fn resource_key(out: &mut [u8], at: usize, answer: ResourceKey) -> usize {
+    match answer {
+        ResourceKey::Key(x) => say::two(out, at, b"le", 0, x),
+        ResourceKey::Nothing => say::one(out, at, b"le", 0),
+        ResourceKey::Refused(refusal) => say::refused(out, at, b"le", refusal),
+    }
+}
+
+fn len(out: &mut [u8], at: usize, answer: Length) -> usize {
+    match answer {
+        Length::Entries(n) => say::two(out, at, b"lf", 0, n),
+        Length::Refused(refusal) => say::refused(out, at, b"lf", refusal),
+    }
+}
+
+// At most 32.
+fn ids(out: &mut [u8], at: usize, properties: &[u16]) -> usize {
+    let mut words = [0u32; 32];
+    widen_into(&mut words, 0, properties);
+    say::line(out, at, b"lg", part(&words, 0, properties.len()))
+}
+
+// `la` to `ld`
+fn of_property(
+    p: &[u16],
+    k: &[u32],
+    n: &[u32],
+    count: usize,
+    property: u16,
+    out: &mut [u8],
+    at: usize,
+) -> usize {
+    let a = contains(out, at, style::contains(p, k, n, count, property));
+    let b = position(out, a, style::position(p, k, n, count, property));
+    let c = value_kind(out, b, style::value_kind(p, k, n, count, property));
+    value_ref(out, c, style::value_ref(p, k, n, count, property))
+}
+
+// All seven lines.
+fn look(
+    p: &[u16],
+    k: &[u32],
+    n: &[u32],
+    count: usize,
+    property: u16,
+    out: &mut [u8],
+    at: usize,
+) -> usize {
+    let d = of_property(p, k, n, count, property, out, at);
+    let e = resource_key(out, d, style::resource_key(p, k, n, count, property));
+    let f = len(out, e, style::len(p, k, n, count));
+    ids(out, f, style::property_ids(p, k, n, count))
+}
+
+// The look-ups on lent lists.
+pub(crate) fn lent_lists(body: &[u32], out: &mut [u8], at: usize) -> usize {
+    let mut properties = [0u16; MOST];
+    let n = halves(list(body, LOOK, 2), &mut properties);
+    look(
+        &properties[..n],
+        list(body, LOOK, 3),
+        list(body, LOOK, 4),
+        wide(word(body, 0)),
+        half(word(body, 1)),
+        out,
+        at,
+    )
+}
+
+fn put_half(halves: &mut [u16], at: usize, value: u16) {
+    if at < halves.len() {
+        halves[at] = value;
+    }
+}
+
+// Stores an entry in the lists; whether it is one.
+fn keep(
+    answer: EntryAnswer,
+    i: usize,
+    properties: &mut [u16],
+    kinds: &mut [u32],
+    numbers: &mut [u32],
+) -> bool {
+    let EntryAnswer::Entry {
+        property,
+        kind,
+        number,
+    } = answer
+    else {
+        return false;
+    };
+    put_half(properties, i, property);
+    put(kinds, i, kind);
+    put(numbers, i, number);
+    true
+}
+
+// The entries of a source, up to 32; how many.
+fn gather(
+    sheet: &[u32],
+    source: u32,
+    number: u32,
+    properties: &mut [u16],
+    kinds: &mut [u32],
+    numbers: &mut [u32],
+) -> usize
+    ensures { λ r. ⌜ r ≤ 32 ⌝ }
+{
+    let mut i: u32 = 0;
+    while i < 32 {
+        let answer = entry_of(sheet, source, number, i);
+        if !keep(answer, wide(i), properties, kinds, numbers) {
+            return wide(i);
+        }
+        i += 1;
+    }
+    32
+}
+
+// The look-ups on the entries of a source.
+pub(crate) fn source(body: &[u32], sheet: &[u32], out: &mut [u8], at: usize) -> usize {
+    let mut properties = [0u16; 32];
+    let mut kinds = [0u32; 32];
+    let mut numbers = [0u32; 32];
+    let n = gather(
+        sheet,
+        word(body, 1),
+        word(body, 2),
+        &mut properties,
+        &mut kinds,
+        &mut numbers,
+    );
+    look(
+        &properties[..n],
+        &kinds[..n],
+        &numbers[..n],
+        n,
+        half(word(body, 3)),
+        out,
+        at,
+    )
+}

@@ -1,0 +1,29 @@
+-- Laws of the ids that a selector holds. Assumes nothing.
+use mathlib.Core.Path.{_≡_, refl, sym, _∙_}
+use mathlib.Core.List.{List, []}
+use Prim.Native.Nat.{ℕ, _+_, _≤_}
+use native.Mathlib.Omega.{arith}
+use Rattle.theory.specs.Weight.{total}
+use Rattle.theory.proofs.Spreads.{map-spread}
+use Rattle.selector.specs.declared.Specificity.{Specificity}
+use Rattle.selector.specs.Rows.{combBefore, stepAt, selectorOf}
+use Rattle.selector.specs.Weighing.{countsOf, countsIn, Summed}
+use Rattle.sheet.specs.Sheets.{countsFor}
+use Rattle.sheet.specs.Laying.{idsHeld}
+use Rattle.given.specs.Leaves.{Ids}
+
+-- the counts of a selector are those of its rows, whatever its combinators
+pub counts-for : (steps combinators : List ℕ) (n : ℕ) → countsFor (selectorOf steps combinators n) ≡ countsIn steps n
+unfolding selectorOf countsIn
+counts-for steps combinators n = map-spread (λ p. countsOf (p .step)) (λ k. record { comb = combBefore combinators k; step = stepAt steps k }) 0 n
+
+pub ids-counted : (steps combinators : List ℕ) (n : ℕ) → idsHeld (selectorOf steps combinators n) ≡ total (λ c. c .classes) (countsIn steps n) + total (λ c. c .pseudos) (countsIn steps n)
+unfolding idsHeld
+ids-counted steps combinators n = rw (counts-for steps combinators n)
+
+pub ids-untied : (steps c d : List ℕ) (n : ℕ) → idsHeld (selectorOf steps c n) ≡ idsHeld (selectorOf steps d n)
+ids-untied steps c d n = ids-counted steps c n ∙ sym (ids-counted steps d n)
+
+-- the sum of what was counted
+pub ids-summed : (steps : List ℕ) (n : ℕ) (s : Specificity) (a b : ℕ) → Summed steps n s → a ≡ s .1 → b ≡ s .0 → Ids steps n (a + b)
+ids-summed steps n s a b h e f = record { same = rw (e, f, h .classes, h .pseudos) (sym (ids-counted steps [] n)); few = omega (arith, h .classes-few, h .pseudos-few) }

@@ -1,0 +1,2 @@
+// What an accepted push of a style or of a group writes.
+pub mod held;

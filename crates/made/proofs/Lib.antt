@@ -1,0 +1,4 @@
+pub mod Distinct
+pub mod Accepting
+pub mod Pushed
+pub mod Promises

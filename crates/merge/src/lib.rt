@@ -1,0 +1,2 @@
+// What an accepted push of a cascade writes.
+pub mod held;
