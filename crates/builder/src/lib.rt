@@ -87,7 +87,7 @@ pub fn push_rules(
 ) -> Pushing
     ensures { λ r. ⌜ Push (groupVerdict (now (sheet .entry)) origin (given (now (rules .entry)) (now (steps .entry)) (now (combinators .entry)) (now (properties .entry)) (now (kinds .entry)) (now (numbers .entry))) «rule_count») (now (sheet .entry)) (pushedGroup (now (sheet .entry)) origin (given (now (rules .entry)) (now (steps .entry)) (now (combinators .entry)) (now (properties .entry)) (now (kinds .entry)) (now (numbers .entry))) «rule_count») r (now (sheet .exit)) ⌝ }
 {
-    let v = admit::sources::group_verdict(
+    let refusal = admit::sources::group_verdict(
         sheet,
         origin,
         rules,
@@ -98,8 +98,8 @@ pub fn push_rules(
         kinds,
         numbers,
     );
-    if v != 0 {
-        return Pushing::Refused(Refusal::of(v));
+    if refusal != 0 {
+        return Pushing::Refused(Refusal::of(refusal));
     }
     group::held::put_group(
         sheet,
