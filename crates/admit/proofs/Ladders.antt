@@ -4,9 +4,9 @@ use mathlib.Core.Bool.{Bool, true, false, not, _||_}
 use mathlib.Core.List.{List, [], _∷_, _++_}
 use Prim.Native.Nat.{ℕ, zero, suc, _+_, _-_, _*_, _/_, _≤_, _<_}
 use native.Mathlib.Omega.{arith}
-use lib.ListN.{length, getD}
+use lib.ListN.{length}
 use lib.Dec.{ltb}
-use borrow.Author.Tests.{lt-ltb, le-ltb, not-true, not-false}
+use borrow.Author.Tests.{lt-ltb, le-ltb, not-false}
 use Rattle.lent.specs.All.{allBelow}
 use Rattle.lent.specs.Refusals.{Check, check, firstOf, checksBelow}
 use Rattle.lent.proofs.Refusals.{first-stop, first-go, positive-below, first-hit, first-pass, first-end, first-clear}

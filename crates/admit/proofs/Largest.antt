@@ -5,16 +5,16 @@ use mathlib.Core.List.{List, [], _∷_, _++_, map}
 use mathlib.Core.Logic.{inl, inr}
 use Prim.Native.Nat.{ℕ, zero, suc, _+_, _*_, _≤_, _<_}
 use native.Mathlib.Omega.{arith}
-use lib.ListN.{length, getD}
 use lib.Dec.{ltb, leb, eqb}
-use borrow.Author.Tests.{lt-ltb, le-ltb, le-leb, lt-leb, eq-eqb, ne-eqb}
+use borrow.Author.Tests.{lt-ltb, le-ltb, le-leb, lt-leb, ne-eqb}
 use Rattle.theory.specs.Lists.{atMost, spread}
 use Rattle.theory.proofs.Lists.{le-or-lt}
 use Rattle.theory.proofs.Spreads.{map-spread, spread-snoc}
 use Rattle.lent.specs.Pool.{endsIn}
 use Rattle.sheet.specs.Layout
 use Rattle.sheet.specs.Sheets.{styleAt, ruleAt, sheetOf}
-use Rattle.given.specs.Pushing.{indexesOf, indexesOver, largest, isNil}
+use Rattle.sheet.specs.Reading.{isNil}
+use Rattle.given.specs.Pushing.{indexesOf, indexesOver, largest}
 
 -- ---- the larger of two
 

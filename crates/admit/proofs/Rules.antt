@@ -5,7 +5,7 @@ use mathlib.Core.List.{List, []}
 use Prim.Native.Nat.{ℕ, _+_, _-_, _*_, _≤_, _<_}
 use native.Mathlib.Nat.{add-zero}
 use native.Mathlib.Omega.{arith}
-use lib.ListN.{getD, drop}
+use lib.ListN.{drop}
 use Rattle.theory.specs.Lists.{sumBelow}
 use Rattle.theory.proofs.Spreads.{sum-next}
 use Rattle.lent.specs.All.{allBelow}

@@ -13,7 +13,8 @@ ghost use lib.Dec.{ltb};
 ghost use Rattle.theory.specs.Lists.{spread};
 ghost use Rattle.lent.specs.Pool.{endsIn};
 ghost use Rattle.sheet.specs.Sheets.{sheetOf};
-ghost use Rattle.given.specs.Pushing.{sumsOver, indexesOf, indexesOver, cascadeVerdict, largest, isNil};
+ghost use Rattle.sheet.specs.Reading.{isNil};
+ghost use Rattle.given.specs.Pushing.{sumsOver, indexesOf, indexesOver, cascadeVerdict, largest};
 
 // Whether the two sheets' counts at word `at` come to more than `limit`.
 fn sum_over(sheet: &[u32], other: &[u32], at: usize, limit: usize) -> bool

@@ -2,15 +2,15 @@
 use mathlib.Core.Path.{_≡_, refl, sym, ap, _∙_}
 use mathlib.Core.Bool.{Bool, true, false, cond, not}
 use mathlib.Core.List.{List, [], _∷_, _++_}
-use Prim.Native.Nat.{ℕ, _≤_, _<_}
-use lib.ListN.{length, replicate}
+use Prim.Native.Nat.{ℕ, zero, suc, _≤_, _<_}
+use native.Mathlib.Omega.{arith}
+use lib.ListN.{length, getD, replicate}
 use lib.Seq.{sets}
-use lib.Dec.{ltb, eqb}
 use borrow.Author.Tests.{lt-ltb, le-ltb, ne-eqb}
-use Rattle.lent.specs.Refusals.{told, refusalOf, check, Check, firstOf, checksBelow, answered}
+use Rattle.lent.specs.Refusals.{told, refusalOf, check, Check, firstOf, checksBelow}
 use Rattle.lent.specs.declared.Refusal.{Refusal}
 use Rattle.lent.specs.declared.Refusal.the-variants.{BrokenShape}
-use Rattle.lent.proofs.Refusals.{readBack, read-refused, named, named-append, named-below, told-first}
+use Rattle.lent.proofs.Refusals.{readBack, read-refused, number-positive, named, named-append, named-below, told-first}
 use Rattle.sheet.specs.Layout
 use Rattle.sheet.specs.Laying.{emptied}
 use Rattle.given.specs.Given.{Group}
@@ -100,6 +100,18 @@ pub push-determined : {verdict : ℕ} {before pushed : List ℕ} {r r′ : Pushi
     → Push verdict before pushed r after → Push verdict before pushed r′ after′ → (r ≡ r′) × (after ≡ after′)
 push-determined {r = r} {r′ = r′} p q = (pushing-distinct r r′ (p .answer ∙ sym (q .answer)), p .memory ∙ sym (q .memory))
 
--- a refused push changes no word
-pub refused-keeps : {verdict : ℕ} {before pushed : List ℕ} {r : Pushing} {after : List ℕ} → Push verdict before pushed r after → (verdict ≡ 0 → ⊥) → after ≡ before
-refused-keeps {verdict} p h = p .memory ∙ rw (ne-eqb verdict 0 h)
+-- what a caller sees: where the answer is `Pushed`, the verdict is 0 and the memory is the pushed one;
+pub pushed-is : {verdict : ℕ} {before pushed after : List ℕ} → Push verdict before pushed Pushed after → (verdict ≡ 0) × (after ≡ pushed)
+pushed-is {verdict = zero} p = (refl, p .memory)
+pushed-is {verdict = suc n} p =
+    let q : 0 ∷ [] ≡ suc n ∷ [] = rw (ne-eqb (suc n) 0 (λ z. omega arith)) at (p .answer) in
+    let z : 0 ≡ suc n = ap (λ (l : List ℕ). getD l 0 0) q in
+    absurd (omega arith)
+
+-- where it is a refusal, no word has changed
+pub refused-is : {verdict : ℕ} {before pushed after : List ℕ} {r : Refusal} → Push verdict before pushed (Refused r) after → after ≡ before
+refused-is {verdict = zero} {r = r} p =
+    let (n, e) = number-positive r in
+    let z : 0 ≡ suc n = sym (ap (λ (l : List ℕ). getD l 0 0) (p .answer)) ∙ e in
+    absurd (omega arith)
+refused-is {verdict = suc n} p = rw (ne-eqb (suc n) 0 (λ z. omega arith)) at (p .memory)

@@ -9,6 +9,7 @@ use lib.Dec.{ltb}
 use borrow.Author.Tests.{ltb-false, eqb-true, not-true, not-false}
 use Rattle.theory.specs.Lists.{ascends, atMost, sumBelow}
 use Rattle.theory.proofs.Spreads.{sum-bound}
+use Rattle.theory.proofs.Lists.{or-first, or-second}
 use Rattle.lent.specs.All.{allBelow}
 use Rattle.lent.specs.Refusals.{check, firstOf, checksBelow}
 use Rattle.lent.proofs.All.{all-at}
@@ -22,17 +23,9 @@ use Rattle.sheet.specs.Shape.{sheetShape}
 use Rattle.sheet.specs.Laying.{idsHeld}
 use Rattle.given.specs.Given.{Group, stepCount, combinatorCount, entryCount, stepsFrom, combinatorsFrom, propertiesFrom, kindsFrom, numbersFrom, selectorGiven}
 use Rattle.given.specs.Pushing.{allEntriesIn, frontChecks, indexChecks, formChecks, styleSizeChecks, stylePushVerdict, rulesOver, ruleSizeChecks, ruleFormChecks, oneRuleChecks, ruleChecks, groupVerdict, sumsOver, indexesOver, cascadeVerdict}
-use Rattle.given.specs.Leaves.{codeBefore, SelectorFits, SelectorsFit, EntriesFit, stepTotal, entryTotal, idTotal}
+use Rattle.given.specs.Leaves.{codeBefore, SelectorsFit, EntriesFit, stepTotal, entryTotal, idTotal}
 
 -- ---- neither test of two holds
-
-or-left : (a b : Bool) → (a || b) ≡ false → a ≡ false
-or-left true b e = e
-or-left false b e = refl
-
-or-right : (a b : Bool) → (a || b) ≡ false → b ≡ false
-or-right true b e = cc
-or-right false b e = e
 
 -- ---- every push of a source
 
@@ -120,14 +113,14 @@ module _ (steps : List ℕ) (n : ℕ) (combinators : List ℕ) (m : ℕ) where
   pub selector-sized : selectorOver steps n combinators m ≡ false → SelectorSized steps n combinators m
   unfolding selectorOver
   selector-sized o =
-      let p = or-right (ltb 8 n) _ o in
-      let q = or-right (ltb (length steps / 22) n) _ p in
-      let h = ltb-false (length steps / 22) n (or-left _ _ p) in
+      let p = or-second (ltb 8 n) _ o in
+      let q = or-second (ltb (length steps / 22) n) _ p in
+      let h = ltb-false (length steps / 22) n (or-first _ _ p) in
       record {
-        few = ltb-false 8 n (or-left _ _ o);
+        few = ltb-false 8 n (or-first _ _ o);
         in-steps = omega arith;
-        in-combinators = ltb-false (length combinators) m (or-left _ _ q);
-        rows = not-false _ (or-right (ltb (length combinators) m) _ q);
+        in-combinators = ltb-false (length combinators) m (or-first _ _ q);
+        rows = not-false _ (or-second (ltb (length combinators) m) _ q);
       }
 
   module _ (properties kinds numbers : List ℕ) (l ids entries : ℕ) where
@@ -220,8 +213,8 @@ pub record GroupAccepted (w : List ℕ) (origin : ℕ) (g : Group) (n : ℕ) : T
 pub rules-sized : (w rules : List ℕ) (n : ℕ) → rulesOver w rules n ≡ false → (Layout.rulesIn w + n ≤ 256) × (3 * n ≤ length rules)
 unfolding rulesOver
 rules-sized w rules n e =
-    let h = ltb-false (length rules / 3) n (or-right (ltb 256 (Layout.rulesIn w + n)) _ e) in
-    (ltb-false 256 (Layout.rulesIn w + n) (or-left _ _ e), omega arith)
+    let h = ltb-false (length rules / 3) n (or-second (ltb 256 (Layout.rulesIn w + n)) _ e) in
+    (ltb-false 256 (Layout.rulesIn w + n) (or-first _ _ e), omega arith)
 
 module _ (w : List ℕ) (origin : ℕ) (g : Group) (n : ℕ) where
   pub group-accepted : groupVerdict w origin g n ≡ 0 → GroupAccepted w origin g n
@@ -259,14 +252,14 @@ module _ (w v : List ℕ) where
       let (b, s) = first-clear 11 (not (sheetShape v)) _ (omega arith) r in
       let (c, t) = first-clear 2 (sumsOver w v) _ (omega arith) s in
       let (d, _) = first-clear 7 (indexesOver w v) [] (omega arith) t in
-      let p = or-right (ltb 256 (Layout.rulesIn w + Layout.rulesIn v)) _ c in
-      let q = or-right (ltb 64 (Layout.stylesIn w + Layout.stylesIn v)) _ p in
+      let p = or-second (ltb 256 (Layout.rulesIn w + Layout.rulesIn v)) _ c in
+      let q = or-second (ltb 64 (Layout.stylesIn w + Layout.stylesIn v)) _ p in
       record {
         shape = not-false _ a;
         other-shape = not-false _ b;
-        rules = ltb-false 256 (Layout.rulesIn w + Layout.rulesIn v) (or-left _ _ c);
-        styles = ltb-false 64 (Layout.stylesIn w + Layout.stylesIn v) (or-left _ _ p);
-        ids = ltb-false 8192 (Layout.idsIn w + Layout.idsIn v) (or-left _ _ q);
-        entries = ltb-false 4096 (allEntriesIn w + allEntriesIn v) (or-right (ltb 8192 (Layout.idsIn w + Layout.idsIn v)) _ q);
+        rules = ltb-false 256 (Layout.rulesIn w + Layout.rulesIn v) (or-first _ _ c);
+        styles = ltb-false 64 (Layout.stylesIn w + Layout.stylesIn v) (or-first _ _ p);
+        ids = ltb-false 8192 (Layout.idsIn w + Layout.idsIn v) (or-first _ _ q);
+        entries = ltb-false 4096 (allEntriesIn w + allEntriesIn v) (or-second (ltb 8192 (Layout.idsIn w + Layout.idsIn v)) _ q);
         indexes = d;
       }

@@ -1,4 +1,4 @@
--- Laws of the ids that a selector holds. Assumes nothing.
+-- Laws of the ids that a selector holds, and of a sheet's counts. Assumes nothing.
 use mathlib.Core.Path.{_≡_, refl, sym, _∙_}
 use mathlib.Core.List.{List, []}
 use Prim.Native.Nat.{ℕ, _+_, _≤_}
@@ -10,7 +10,9 @@ use Rattle.selector.specs.Rows.{combBefore, stepAt, selectorOf}
 use Rattle.selector.specs.Weighing.{countsOf, countsIn, Summed}
 use Rattle.sheet.specs.Sheets.{countsFor}
 use Rattle.sheet.specs.Laying.{idsHeld}
-use Rattle.given.specs.Leaves.{Ids}
+use Rattle.sheet.proofs.Shaped.{Shaped}
+use Rattle.given.specs.declared.Counts.{Counts}
+use Rattle.given.specs.Leaves.{CountsOf, Within, Ids}
 
 -- the counts of a selector are those of its rows, whatever its combinators
 pub counts-for : (steps combinators : List ℕ) (n : ℕ) → countsFor (selectorOf steps combinators n) ≡ countsIn steps n
@@ -27,3 +29,15 @@ ids-untied steps c d n = ids-counted steps c n ∙ sym (ids-counted steps d n)
 -- the sum of what was counted
 pub ids-summed : (steps : List ℕ) (n : ℕ) (s : Specificity) (a b : ℕ) → Summed steps n s → a ≡ s .1 → b ≡ s .0 → Ids steps n (a + b)
 ids-summed steps n s a b h e f = record { same = rw (e, f, h .classes, h .pseudos) (sym (ids-counted steps [] n)); few = omega (arith, h .classes-few, h .pseudos-few) }
+
+-- the counts of a shaped sheet
+pub counts-within : {w : List ℕ} {c : Counts} → CountsOf w c → Shaped w → Within c
+counts-within h s = record {
+  rules = omega (arith, h .rules, s .rules);
+  steps = omega (arith, h .steps, s .steps);
+  ids = omega (arith, h .ids, s .ids);
+  entries = omega (arith, h .entries, s .entries);
+  styles = omega (arith, h .styles, s .styles);
+  style-entries = omega (arith, h .style-entries, s .style-entries);
+  next = omega (arith, h .next, s .next);
+}

@@ -1,5 +1,5 @@
 -- When a push is refused, and what an accepted one leaves: 01's table, its "Order", and "Weight, winners, changes". Assumes nothing.
-use mathlib.Core.Bool.{Bool, true, false, cond, not, _||_}
+use mathlib.Core.Bool.{Bool, cond, not, _||_}
 use mathlib.Core.List.{List, [], _∷_, _++_, map}
 use Prim.Native.Nat.{ℕ, _+_, _*_, _/_}
 use lib.ListN.{length}
@@ -110,10 +110,6 @@ shiftStyle k d = record { origin = d .origin; source = k + d .source; entries = 
 
 abbrev pub shiftRule : ℕ → Rule → Rule
 shiftRule k r = record { origin = r .origin; source = k + r .source; order = r .order; selector = r .selector; entries = r .entries }
-
-abbrev pub isNil : {A : Type 0} → List A → Bool
-isNil [] = true
-isNil (x ∷ l) = false
 
 unfoldable pub indexesOver : List ℕ → List ℕ → Bool
 indexesOver w v = not (atMost 65535 (map (λ x. Layout.nextIn w + x) (indexesOf (sheetOf v))))

@@ -7,13 +7,12 @@ use native.Mathlib.Nat.{zero-add, add-zero, mul-suc}
 use native.Mathlib.Numerals.{add-one}
 use native.Mathlib.Omega.{arith}
 use lib.ListN.{length, getD, drop, length-append, length-drop}
-use lib.Seq.{length-take-le, getD-drop}
+use lib.Seq.{getD-drop}
 use Rattle.theory.specs.Lists.{spread, sumBelow}
-use Rattle.theory.specs.Paths.{Part, Selector}
+use Rattle.theory.specs.Paths.{Selector}
 use Rattle.theory.specs.Weight.{Counts, total}
 use Rattle.theory.proofs.Lists.{flatMap-append, sort-length}
 use Rattle.theory.proofs.Spreads.{length-spread, spread-same, spread-more, spread-snoc, spread-shift, sum-bound, flatMap-one, length-rows}
-use Rattle.lent.specs.All.{allBelow}
 use Rattle.lent.specs.Pool.{startOf}
 use Rattle.lent.proofs.All.{all-at}
 use Rattle.selector.specs.Tags.{Tags}
@@ -24,22 +23,17 @@ use Rattle.selector.proofs.WeighLaws.{classes-few, pseudos-few, counts-next}
 use Rattle.style.specs.Entries.{Entry, entriesOf}
 use Rattle.sheet.specs.Layout
 use Rattle.sheet.specs.Sheets.{Rule, countsFor}
-use Rattle.sheet.specs.Laying.{idWords, stepWords, stepsWords, ruleWords, ruleEntries, stepsOf, idsHeld}
+use Rattle.sheet.specs.Laying.{stepWords, stepsWords, ruleWords, ruleEntries, stepsOf, idsHeld}
+use Rattle.laid.proofs.Frame
+use Rattle.laid.proofs.Held.{ids-append}
 use Rattle.given.specs.Given.{Group, given, stepCount, entryCount, stepsFrom, combinatorsFrom, selectorGiven, entriesGiven, ruleGiven, rulesGiven}
 use Rattle.given.specs.Leaves.{codeBefore, partOf, SelectorFits, SelectorsFit, stepTotal, entryTotal, idTotal}
-use Rattle.given.proofs.Counting.{ids-counted, ids-untied}
+use Rattle.given.proofs.Counting.{ids-counted}
 
 -- ---- rows of steps
 
-length-ids : (l : List ℕ) → length (idWords l) ≡ 8
-length-ids l = length-take-le 8 (l ++ _) (rw length-append (omega arith))
-
-length-step : (p : Part Tags) → length (stepWords p) ≡ 23
-unfolding stepWords
-length-step p = simp (length-append, length-ids)
-
 pub length-steps : (sel : Selector Tags) → length (flatMap stepWords sel) ≡ 23 * length sel
-length-steps sel = length-rows stepWords 23 sel (λ p m. length-step p)
+length-steps sel = length-rows stepWords 23 sel (λ p m. Frame.length-step p)
 
 -- ---- one more step
 
@@ -126,11 +120,6 @@ rules-append s e (r ∷ l) m =
     let b : e + (length (r .entries) + length (ruleEntries l)) ≡ e′ + length (ruleEntries l) = omega arith in
     rw (length-append (r .selector) (stepsOf l), length-append (r .entries) (ruleEntries l), a, b, rules-append s′ e′ l m)
 
-pub rule-words-length : (s e : ℕ) (rules : List Rule) → length (ruleWords s e rules) ≡ 5 * length rules
-unfolding ruleWords
-rule-words-length s e [] = refl
-rule-words-length s e (r ∷ l) = omega (arith, rule-words-length (s + length (r .selector)) (e + length (r .entries)) l, mul-suc 5 (length l))
-
 module _ (s e origin source : ℕ) (g : Group) where
   one-row : (k a b : ℕ) → ruleWords a b (ruleGiven origin source g k ∷ []) ≡ origin ∷ source ∷ k ∷ (a + stepCount g k) ∷ (b + entryCount g k) ∷ []
   unfolding ruleWords
@@ -146,7 +135,7 @@ module _ (s e origin source : ℕ) (g : Group) where
   rows-none = refl
 
   pub rows-length : (k : ℕ) → length (ruleWords s e (rulesGiven origin source g k)) ≡ 5 * k
-  rows-length k = rule-words-length s e (rulesGiven origin source g k) ∙ rw (length-rules origin source g k)
+  rows-length k = Frame.length-rules s e (rulesGiven origin source g k) ∙ rw (length-rules origin source g k)
 
 -- ---- what each depends on
 
@@ -187,16 +176,6 @@ entries-all o u g (suc n) =
     rw (← add-one n, flat-next o u g (λ r. r .entries) n, entries-all o u g n) (unfold ruleGiven entriesGiven in (entries-more (g .properties) (g .kinds) (g .numbers) (entryTotal g n) (entryCount g n)))
 
 -- ---- their ids
-
-total-append : (f : Counts → ℕ) (l m : List Counts) → total f (l ++ m) ≡ total f l + total f m
-unfolding total
-total-append f [] m = omega arith
-total-append f (c ∷ l) m = omega (arith, total-append f l m)
-
-ids-append : (a b : Selector Tags) → idsHeld (a ++ b) ≡ idsHeld a + idsHeld b
-unfolding idsHeld
-ids-append a b =
-    rw (map-append (λ p. countsOf (p .step)) a b, total-append (λ c. c .classes) (countsFor a) (countsFor b), total-append (λ c. c .pseudos) (countsFor a) (countsFor b)) (omega arith)
 
 pub id-total : (o u : ℕ) (g : Group) (n : ℕ) → idsHeld (stepsOf (rulesGiven o u g n)) ≡ idTotal g n
 unfolding sumBelow

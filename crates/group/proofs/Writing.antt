@@ -21,15 +21,15 @@ use Rattle.selector.specs.Checks.{rowFits}
 use Rattle.style.specs.Entries.{entriesOf}
 use Rattle.sheet.specs.Layout
 use Rattle.sheet.specs.Sheets.{ruleStepEnds}
-use Rattle.sheet.specs.Laying.{stepWords, stepsWords, ruleWords, styleWords, ruleEntries, stepsOf, idsHeld, layEntries, layRules, layStyles, countWords, lay}
-use Rattle.sheet.proofs.Shaped.{Shaped, shaped}
+use Rattle.sheet.specs.Laying.{stepWords, stepsWords, ruleWords, styleWords, idsHeld, layEntries, layRules, layStyles, countWords, lay}
+use Rattle.sheet.proofs.Shaped.{shaped}
 use Rattle.given.specs.declared.Counts.{Counts}
 use Rattle.given.specs.Given.{styleGiven, Group, given, stepCount, combinatorCount, entryCount, stepsFrom, combinatorsFrom, selectorGiven, rulesGiven}
 use Rattle.given.specs.Pushing.{allEntriesIn, stylePushVerdict, pushedStyle, groupVerdict, pushedGroup}
-use Rattle.given.specs.Leaves.{CountsOf, Within, countsList, partOf, codeBefore, Ids, SelectorFits, SelectorsFit, EntriesFit, stepTotal, entryTotal, idTotal}
-use Rattle.given.proofs.Accepted.{StyleAccepted, style-accepted, GroupAccepted, group-accepted, selectors-fit}
-use Rattle.given.proofs.Counting.{ids-untied}
-use Rattle.group.proofs.Rules.{length-steps, length-selector, selector-next, rules-none, length-rules, flat-none, step-total, entry-total, steps-next, steps-length, rows-next, rows-none, rows-length, steps-same, rows-same, entries-all, id-total, id-total-few, sum-within, ends-few}
+use Rattle.given.specs.Leaves.{CountsOf, Within, countsList, partOf, codeBefore, Ids, SelectorsFit, EntriesFit, stepTotal, entryTotal, idTotal}
+use Rattle.given.proofs.Accepted.{style-accepted, GroupAccepted, group-accepted, selectors-fit}
+use Rattle.given.proofs.Counting.{ids-untied, counts-within}
+use Rattle.group.proofs.Rules.{length-steps, length-selector, selector-next, length-rules, step-total, entry-total, steps-next, steps-length, rows-next, rows-length, steps-same, rows-same, entries-all, id-total, id-total-few, sum-within, ends-few}
 
 -- ---- a style
 
@@ -41,18 +41,6 @@ unfolding layStyles styleWords
 style-parts w x y properties kinds numbers origin next d e n d′ e′ a b f g =
     let l : length (entriesOf properties kinds numbers n) ≡ n = unfold entriesOf in (length-spread _ 0 n) in
     g ∙ rw (f, a, b, flatMap-one (λ s. s .entries) (styleGiven origin next properties kinds numbers n), l)
-
--- the counts of a shaped sheet
-pub counts-within : {w : List ℕ} {c : Counts} → CountsOf w c → Shaped w → Within c
-counts-within h s = record {
-  rules = omega (arith, h .rules, s .rules);
-  steps = omega (arith, h .steps, s .steps);
-  ids = omega (arith, h .ids, s .ids);
-  entries = omega (arith, h .entries, s .entries);
-  styles = omega (arith, h .styles, s .styles);
-  style-entries = omega (arith, h .style-entries, s .style-entries);
-  next = omega (arith, h .next, s .next);
-}
 
 module _ (w : List ℕ) (origin : ℕ) (properties kinds numbers : List ℕ) (n : ℕ) (v : stylePushVerdict w origin properties kinds numbers n ≡ 0) where
   pub style-count : n ≤ 32

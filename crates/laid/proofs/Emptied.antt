@@ -11,7 +11,7 @@ use Rattle.theory.specs.Lists.{sumBelow}
 use Rattle.theory.specs.Weight.{total}
 use Rattle.theory.proofs.Spreads.{part-spread}
 use Rattle.lent.specs.Pool.{startOf}
-use Rattle.lent.proofs.Placing.{sets-inside, sets-same}
+use Rattle.lent.proofs.Placing.{sets-after, sets-inside, sets-same}
 use Rattle.sheet.specs.Layout
 use Rattle.sheet.specs.Sheets.{sheetOf}
 use Rattle.sheet.specs.Shape.{sheetShape}
@@ -19,6 +19,11 @@ use Rattle.sheet.specs.Laying.{ruleWords, styleWords, layEntries, layRules, lay
 use Rattle.sheet.proofs.Shaped.{unshaped}
 
 -- ---- the empty sheet
+
+-- "writes the counts only"
+pub emptied-others : (w : List ℕ) (i : ℕ) → 7 ≤ i → getD (emptied w) i 0 ≡ getD w i 0
+unfolding emptied
+emptied-others w i h = sets-after w 0 (replicate 7 0) i h
 
 module _ (w : List ℕ) (room : Layout.SHEET-WORDS ≤ length w) where
   zero-count : (i : ℕ) → i < 7 → getD (emptied w) i 0 ≡ 0

@@ -163,6 +163,34 @@ lay-stores styles rules next w = refl
 pub length-lay : (styles : List Style) (rules : List Rule) (next : ℕ) (w : List ℕ) → length (lay styles rules next w) ≡ length w
 length-lay styles rules next w = rw (lay-stores styles rules next w) (length-writes (puts (areas styles rules next w)) w)
 
+-- ---- every other word
+
+-- it stands before n words that are put at `at`, or after them
+abbrev pub Beside : ℕ → ℕ → ℕ → Type 0
+Beside at n i = (i < at) ⊎ (at + n ≤ i)
+
+-- the word at i is no count, and stands in no row and no entry that is added
+pub record Free (w : List ℕ) (styles : List Style) (rules : List Rule) (i : ℕ) : Type 0 where
+  pub counts : 7 ≤ i
+  pub rule-rows : Beside (8 + 5 * Layout.rulesIn w) (5 * length rules) i
+  pub step-rows : Beside (1288 + 23 * Layout.stepsIn w) (23 * length (stepsOf rules)) i
+  pub properties : Beside (48392 + Layout.entriesIn w) (length (ruleEntries rules)) i
+  pub kinds : Beside (52488 + Layout.entriesIn w) (length (ruleEntries rules)) i
+  pub numbers : Beside (56584 + Layout.entriesIn w) (length (ruleEntries rules)) i
+  pub style-rows : Beside (60680 + 3 * Layout.stylesIn w) (3 * length styles) i
+  pub style-properties : Beside (60872 + Layout.styleEntriesIn w) (length (styleEntries styles)) i
+  pub style-kinds : Beside (62920 + Layout.styleEntriesIn w) (length (styleEntries styles)) i
+  pub style-numbers : Beside (64968 + Layout.styleEntriesIn w) (length (styleEntries styles)) i
+
+-- THEOREM: "an accepted call leaves what stands past its answer"
+pub lay-others : (w : List ℕ) (styles : List Style) (rules : List Rule) (next i : ℕ) → Free w styles rules i → getD (lay styles rules next w) i 0 ≡ getD w i 0
+unfolding countWords
+lay-others w styles rules next i f =
+    let n : List Entry = ruleEntries rules in
+    let m : List Entry = styleEntries styles in
+    rw (lay-stores styles rules next w)
+    (writes-outside (puts (areas styles rules next w)) w i (rw (length-map n (λ x. x .property)) (f .properties), (rw (length-map n (λ x. x .kind)) (f .kinds), (rw (length-map n (λ x. x .number)) (f .numbers), (rw (length-steps rules) (f .step-rows), (rw (length-rules (Layout.stepsIn w) (Layout.entriesIn w) rules) (f .rule-rows), (rw (length-map m (λ x. x .property)) (f .style-properties), (rw (length-map m (λ x. x .kind)) (f .style-kinds), (rw (length-map m (λ x. x .number)) (f .style-numbers), (rw (length-styles (Layout.styleEntriesIn w) styles) (f .style-rows), (inr (omega (arith, f .counts)), tt)))))))))))
+
 module _ {w : List ℕ} {styles : List Style} {rules : List Rule} (next : ℕ) (z : Sizes w styles rules) where
   inside : Inside (areas styles rules next w)
   unfolding countWords

@@ -114,7 +114,7 @@ module _ {v : List ℕ} (s : Shaped v) where
   step-room : (k : ℕ) → k < Layout.stepsIn v → Layout.stepPlace k + 23 ≤ length v
   step-room k h = omega (arith, s .steps, s .room)
 
-  first-ids : (n : ℕ) → n ≤ Layout.stepsIn v → idsHeld (spread (partAt v) 0 n) ≡ sumBelow (idsAt v) n
+  pub first-ids : (n : ℕ) → n ≤ Layout.stepsIn v → idsHeld (spread (partAt v) 0 n) ≡ sumBelow (idsAt v) n
   unfolding sumBelow partAt
   first-ids zero h = unfold idsHeld total in refl
   first-ids (suc n) h =

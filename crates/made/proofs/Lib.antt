@@ -2,3 +2,4 @@ pub mod Distinct
 pub mod Accepting
 pub mod Pushed
 pub mod Promises
+pub mod Calls

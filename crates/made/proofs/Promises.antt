@@ -1,29 +1,36 @@
 -- What is so of every sheet made by accepted pushes. Assumes nothing.
-use mathlib.Core.Path.{_≡_, refl, ap, _∙_}
+use mathlib.Core.Path.{_≡_, refl, sym, ap, _∙_}
 use mathlib.Core.Logic.{_≢_}
 use mathlib.Core.Bool.{true}
-use mathlib.Core.Option.{some}
+use mathlib.Core.Option.{none, some}
 use mathlib.Core.List.{List, [], map}
-use Prim.Native.Nat.{ℕ, _+_, _≤_, _<_}
-use native.Mathlib.Nat.{zero-add}
+use Prim.Native.Nat.{ℕ, _+_, _*_, _≤_, _<_}
+use native.Mathlib.Nat.{zero-add, add-zero}
 use native.Mathlib.Omega.{arith}
 use lib.ListN.{length, getD, getElem?, length-map}
 use lib.IntN.{pos}
 use lib.Dec.{ltb}
 use borrow.Author.Tests.{ltb-false}
 use Rattle.theory.specs.Lists.{spread}
+use Rattle.theory.specs.Paths.{Part}
 use Rattle.theory.specs.Cascade.{compareKeys}
-use Rattle.theory.proofs.Spreads.{length-spread, map-spread, getD-spread}
+use Rattle.theory.proofs.Spreads.{length-spread, map-spread, getD-spread, getElem?-spread}
 use Rattle.lent.proofs.Refusals.{first-clear}
+use Rattle.selector.specs.Tags.{Tags, asSets}
+use Rattle.selector.specs.Rows.{rowAt, stepAt, combBefore, selectorOf}
+use Rattle.typed.specs.Typed.{stepTags}
 use Rattle.sheet.specs.Layout
 use Rattle.sheet.specs.Sheets.{Style, Rule, Source, sourcesOf, keyOf, ruleAt, styleAt, sheetOf}
 use Rattle.sheet.specs.Shape.{sheetShape}
 use Rattle.sheet.specs.Laying.{emptied}
+use Rattle.sheet.specs.Reading.{StepRead}
+use Rattle.sheet.specs.declared.StepAnswer.{StepAnswer}
 use Rattle.sheet.proofs.Shaped.{shaped}
+use Rattle.sheet.proofs.Readers.{step-of-rule}
 use Rattle.laid.proofs.Reading.{before-or-added, no-rule}
 use Rattle.laid.proofs.Held.{rules-count}
 use Rattle.laid.proofs.Emptied.{read-emptied, shape-emptied}
-use Rattle.given.specs.Given.{styleGiven, Group, selectorGiven, entriesGiven, ruleGiven, rulesGiven}
+use Rattle.given.specs.Given.{styleGiven, Group, stepCount, stepsFrom, combinatorsFrom, selectorGiven, entriesGiven, ruleGiven, rulesGiven}
 use Rattle.given.specs.Pushing.{emptyVerdict, stylePushVerdict, pushedStyle, groupVerdict, pushedGroup, cascadeVerdict, pushedCascade, shiftRule}
 use Rattle.given.proofs.Accepted.{group-accepted}
 use Rattle.made.specs.Made.{Halves, Made, empty, style, group, cascade}
@@ -136,6 +143,22 @@ made-bounded {w} m =
 -- ---- what was pushed is read back
 
 -- rule k of a group is there, and it is the one given: its steps with their ids sorted and made unique, its entries, its origin, the source index taken, its order
+-- step i of a given rule
+abbrev partGiven : Group → ℕ → ℕ → Part Tags
+partGiven g k i = record { comb = combBefore (combinatorsFrom g k) i; step = stepAt (stepsFrom g k) i }
+
+length-given : (g : Group) (k : ℕ) → length (selectorGiven g k) ≡ stepCount g k
+unfolding selectorGiven selectorOf
+length-given g k = length-spread _ 0 (stepCount g k)
+
+given-step : (g : Group) (k i : ℕ) → i < stepCount g k → getElem? (selectorGiven g k) i ≡ some (partGiven g k i)
+unfolding selectorGiven selectorOf
+given-step g k i h =
+    rw (zero-add i) at (getElem?-spread {A = Part Tags} (λ j. record { comb = combBefore (combinatorsFrom g k) j; step = stepAt (stepsFrom g k) j }) 0 (stepCount g k) i h)
+
+some-same : {A : Type 0} (a b : A) → some a ≡ some b → a ≡ b
+some-same a b e = ap (λ o. elim o [ none ↦ a | some x ↦ x ]) e
+
 pub record ReadBack (w : List ℕ) (origin : ℕ) (g : Group) (k : ℕ) (w′ : List ℕ) : Type 0 where
   pub there : Layout.rulesIn w + k < Layout.rulesIn w′
   pub is : ruleAt w′ (Layout.rulesIn w + k) ≡ record { origin = origin; source = Layout.nextIn w; order = k; selector = selectorGiven g k; entries = entriesGiven g k }
@@ -147,3 +170,21 @@ read-back w origin g n u e k h =
     let p = group-pushed w origin g n u e in
     let l = given-rules origin (Layout.nextIn w) g n in
     record { there = omega (arith, p .rules-count); is = p .rules-new k (omega arith) ∙ given-at origin (Layout.nextIn w) g n k h }
+
+-- so that a step which `rule_step` finds there asks for what the given row asks for, "sorted and made unique"
+pub step-back : (w : List ℕ) (origin : ℕ) (g : Group) (n : ℕ) → Halves (g .properties) → groupVerdict w origin g n ≡ 0 → (k : ℕ) → k < n → (i : ℕ) → i < stepCount g k
+    → (a : StepAnswer) → StepRead (pushedGroup w origin g n) (Layout.rulesIn w + k) i a → stepTags (a .step) ≡ asSets (rowAt 8 (stepsFrom g k) (22 * i))
+step-back w origin g n u e k h i l a read =
+    let w′ = pushedGroup w origin g n in
+    let r : ℕ = Layout.rulesIn w + k in
+    let b = read-back w origin g n u e k h in
+    let c : ruleAt w′ r .selector ≡ selectorGiven g k = ap (λ (x : Rule). x .selector) (b .is) in
+    let (p, f, t) = step-of-rule w′ (group-pushed w origin g n u e .shape) r i a read (b .there) (rw (c, length-given g k) l) in
+    t ∙ ap (λ (x : Part Tags). x .step) (some-same p (partGiven g k i) (sym (rw c at f) ∙ given-step g k i l))
+
+-- a pushed direct style, read back
+pub style-back : (w : List ℕ) (origin : ℕ) (properties kinds numbers : List ℕ) (n : ℕ) → Halves properties → stylePushVerdict w origin properties kinds numbers n ≡ 0
+    → styleAt (pushedStyle w origin properties kinds numbers n) (Layout.stylesIn w) ≡ styleGiven origin (Layout.nextIn w) properties kinds numbers n
+style-back w origin properties kinds numbers n u e =
+    let p = style-pushed w origin properties kinds numbers n u e in
+    ap (styleAt (pushedStyle w origin properties kinds numbers n)) (sym (add-zero (Layout.stylesIn w))) ∙ p .styles-new 0 (omega arith)

@@ -14,8 +14,8 @@ use Rattle.sheet.specs.Sheets.{Style, Rule, ruleAt, styleAt, sheetOf}
 use Rattle.sheet.specs.Shape.{sheetShape}
 use Rattle.sheet.specs.Laying.{lay}
 use Rattle.sheet.proofs.Shaped.{Shaped, shaped}
-use Rattle.laid.proofs.Frame.{rules-after}
-use Rattle.laid.proofs.Reading.{no-rule, style-at-kept, rule-at-kept, rule-at-new, read-lay}
+use Rattle.laid.proofs.Frame.{Free, length-lay, lay-others, rules-after, styles-after}
+use Rattle.laid.proofs.Reading.{no-rule, no-style, style-at-kept, style-at-new, rule-at-kept, rule-at-new, read-lay}
 use Rattle.laid.proofs.Shaping.{good-few, shaped-ended, shape-lay}
 use Rattle.laid.proofs.Emptied.{lay-nothing}
 use Rattle.laid.proofs.Held.{steps-few, style-entries-few}
@@ -35,9 +35,14 @@ pub record Pushed (w : List ℕ) (styles : List Style) (rules : List Rule) (next
   -- what was there is unchanged,
   pub styles-kept : (d : ℕ) → d < Layout.stylesIn w → styleAt w′ d ≡ styleAt w d
   pub rules-kept : (r : ℕ) → r < Layout.rulesIn w → ruleAt w′ r ≡ ruleAt w r
-  -- and the new rules stand after it
+  -- the new rules and styles stand after it,
   pub rules-count : Layout.rulesIn w′ ≡ Layout.rulesIn w + length rules
   pub rules-new : (k : ℕ) → k < length rules → ruleAt w′ (Layout.rulesIn w + k) ≡ getD rules k no-rule
+  pub styles-count : Layout.stylesIn w′ ≡ Layout.stylesIn w + length styles
+  pub styles-new : (k : ℕ) → k < length styles → styleAt w′ (Layout.stylesIn w + k) ≡ getD styles k no-style
+  -- "leaves every word past what it holds": those that are no count, and stand in no row and no entry that was added
+  pub size : length w′ ≡ length w
+  pub others : (i : ℕ) → Free w styles rules i → getD w′ i 0 ≡ getD w i 0
 
 pushed : {w : List ℕ} {styles : List Style} {rules : List Rule} {next : ℕ} → Ready w styles rules next → Pushed w styles rules next (lay styles rules next w)
 pushed {w} {styles} {rules} {next} y =
@@ -50,6 +55,10 @@ pushed {w} {styles} {rules} {next} y =
       rules-kept = rule-at-kept next (y .sizes) t few;
       rules-count = rules-after next (y .sizes);
       rules-new = rule-at-new next (y .sizes) t few no-rule;
+      styles-count = styles-after next (y .sizes);
+      styles-new = style-at-new next (y .sizes) t no-style;
+      size = length-lay styles rules next w;
+      others = lay-others w styles rules next;
     }
 
 -- ---- each

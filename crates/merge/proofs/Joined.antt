@@ -3,30 +3,28 @@ use mathlib.Core.Path.{_≡_, refl, sym, ap, ap₂, _∙_}
 use mathlib.Core.Bool.{true}
 use mathlib.Core.Logic.{inl, inr}
 use mathlib.Core.List.{List, [], _∷_, _++_, map, flatMap}
-use Prim.Native.Nat.{ℕ, zero, suc, _+_, _-_, _*_, _≤_, _<_}
+use Prim.Native.Nat.{ℕ, zero, suc, _+_, _-_, _*_, _≤_}
 use native.Mathlib.Nat.{zero-add, add-zero, mul-suc}
 use native.Mathlib.Numerals.{add-one}
 use native.Mathlib.Omega.{arith}
-use lib.ListN.{length, getD, take, drop, length-append, length-drop}
-use lib.Seq.{sets, length-take-le}
+use lib.ListN.{length, getD, take, drop, length-append}
+use lib.Seq.{sets}
 use lib.Dec.{leb}
 use borrow.Author.Tests.{lt-ltb, le-ltb, leb-true}
-use Rattle.theory.specs.Lists.{ascends, atMost, sort, spread, sumBelow}
-use Rattle.theory.specs.Paths.{Part, Selector}
-use Rattle.theory.specs.Weight.{total}
+use Rattle.theory.specs.Lists.{ascends, atMost, sort, spread}
 use Rattle.theory.proofs.Lists.{le-or-lt, and-left, and-right, ascending-ext, ascends-is, sort-in, sort-ascending, flatMap-append}
-use Rattle.theory.proofs.Spreads.{length-spread, getD-spread, spread-same, spread-more, spread-snoc, spread-shift, map-spread, part-spread, flatMap-one, at-most-intro, at-most-append}
+use Rattle.theory.proofs.Spreads.{length-spread, spread-same, spread-snoc, spread-shift, map-spread, part-spread, flatMap-one, at-most-append}
 use Rattle.lent.specs.Pool.{endsIn, startOf}
-use Rattle.lent.proofs.Pool.{Rising}
 use Rattle.selector.specs.Tags.{Tags, asSets}
 use Rattle.selector.specs.Rows.{rowAt}
 use Rattle.selector.specs.Checks.{tagsAscend}
-use Rattle.selector.specs.Weighing.{countsOf}
 use Rattle.sheet.specs.Layout
 use Rattle.sheet.specs.Sheets.{Style, Rule, between, ruleStepEnds, ruleEntryEnds, styleEntryEnds, partAt, entryAt, ruleAt, styleAt, sheetOf}
-use Rattle.sheet.specs.Shape.{idsAt}
-use Rattle.sheet.specs.Laying.{idWords, stepWords, stepsWords, ruleWords, styleWords, ruleEntries, styleEntries, stepsOf, idsHeld}
+use Rattle.sheet.specs.Laying.{stepWords, stepsWords, ruleWords, styleWords, ruleEntries, styleEntries, stepsOf, idsHeld}
+use Rattle.sheet.proofs.Readers.{sort-same}
 use Rattle.sheet.proofs.Shaped.{Shaped, StepShaped}
+use Rattle.laid.proofs.Frame.{steps-flat}
+use Rattle.laid.proofs.Held.{first-suc, most-spread, ends-flat, first-ids}
 use Rattle.given.specs.Pushing.{indexesOf, shiftStyle, shiftRule, largest}
 use Rattle.admit.proofs.Largest.{indexes-are}
 use Rattle.given.specs.declared.Counts.{Counts}
@@ -36,26 +34,7 @@ use Rattle.given.specs.Leaves.{partOf, heldRow, heldStyleRow}
 pub first-more : {A : Type 0} (f : ℕ → A) (n : ℕ) → spread f 0 (n + 1) ≡ spread f 0 n ++ f n ∷ []
 first-more f n = rw (zero-add n) at (spread-snoc f 0 n)
 
-first-suc : {A : Type 0} (f : ℕ → A) (n : ℕ) → spread f 0 (suc n) ≡ spread f 0 n ++ f n ∷ []
-first-suc f n = rw (add-one n) at (first-more f n)
-
 -- ---- lists end to end
-
--- where list k is what f gives between its ends, all of them are what f gives up to the last end
-pub ends-flat : {A B : Type 0} (g : B → List A) (b : ℕ → B) (f : ℕ → A) (ends : ℕ → ℕ) (n : ℕ)
-    → ((k : ℕ) → g (b k) ≡ between f ends k)
-    → Rising n ends
-    → flatMap g (spread b 0 n) ≡ spread f 0 (startOf ends n)
-unfolding flatMap startOf
-ends-flat g b f ends zero h up = refl
-ends-flat g b f ends (suc n) h up =
-    let r : startOf ends n ≤ ends n = up n (omega arith) in
-    let z : ends n ≡ startOf ends n + (ends n - startOf ends n) = omega arith in
-    ap (flatMap g) (first-suc b n)
-    ∙ flatMap-append g (spread b 0 n) (b n ∷ [])
-    ∙ ap₂ _++_ (ends-flat g b f ends n h (λ k l. up k (omega arith))) (flatMap-one g (b n) ∙ h n)
-    ∙ sym (rw (zero-add (startOf ends n)) at (spread-more f 0 (startOf ends n) (ends n - startOf ends n)))
-    ∙ ap (spread f 0) (sym z)
 
 -- list n ends after those before it
 list-end : {A B : Type 0} (g : B → List A) (b : ℕ → B) (f : ℕ → A) (ends : ℕ → ℕ) (n x : ℕ)
@@ -68,9 +47,6 @@ list-end g b f ends n x p q r =
 
 -- ---- steps as they are held
 
-sort-same : (l : List ℕ) → ascends l ≡ true → sort l ≡ l
-sort-same l e = ascending-ext (sort l) l (sort-ascending l) (ascends-is l .0 e) (sort-in l)
-
 sets-same : (t : Tags) → tagsAscend t ≡ true → asSets t ≡ t
 sets-same t e = rw (sort-same (t .classes) (and-left (ascends (t .classes)) _ e), sort-same (t .pseudos) (and-right (ascends (t .classes)) _ e))
 
@@ -78,47 +54,6 @@ sets-same t e = rw (sort-same (t .classes) (and-left (ascends (t .classes)) _ e)
 pub held-part : {v : List ℕ} {j : ℕ} → StepShaped v j → partOf v (Layout.stepPlace j) (endsIn v Layout.STEP-COMBINATOR Layout.STEP-WORDS j) ≡ partAt v j
 unfolding partAt
 held-part {v} {j} s = rw (sets-same (rowAt 8 v (Layout.stepPlace j)) (s .sorted))
-
-length-ids : (l : List ℕ) → length (idWords l) ≡ 8
-length-ids l = length-take-le 8 (l ++ _) (rw length-append (omega arith))
-
-pub length-step : (p : Part Tags) → length (stepWords p) ≡ 23
-unfolding stepWords
-length-step p = simp (length-append, length-ids)
-
-pub steps-flat : (rules : List Rule) → stepsWords rules ≡ flatMap stepWords (stepsOf rules)
-unfolding flatMap
-steps-flat [] = refl
-steps-flat (r ∷ l) = ap (λ x. flatMap stepWords (r .selector) ++ x) (steps-flat l) ∙ sym (flatMap-append stepWords (r .selector) (stepsOf l))
-
--- ---- ids
-
-ids-snoc : (l : Selector Tags) (p : Part Tags) → idsHeld (l ++ p ∷ []) ≡ idsHeld l + (length (p .step .classes) + length (p .step .pseudos))
-unfolding idsHeld total countsOf
-ids-snoc [] p = omega arith
-ids-snoc (q ∷ l) p = omega (arith, ids-snoc l p)
-
--- the ids of a row are as many as its counts say
-row-ids : {v : List ℕ} {j : ℕ} → StepShaped v j → Layout.stepPlace j + 23 ≤ length v → length (rowAt 8 v (Layout.stepPlace j) .classes) + length (rowAt 8 v (Layout.stepPlace j) .pseudos) ≡ idsAt v j
-unfolding rowAt
-row-ids {v} {j} s h =
-    let a = s .classes in
-    let b = s .pseudos in
-    let at = Layout.stepPlace j in
-    rw (
-      length-take-le (getD v (at + 4) 0) (drop (at + 6) v) (rw length-drop (omega arith)),
-      length-take-le (getD v (at + 5) 0) (drop (at + 14) v) (rw length-drop (omega arith)),
-    )
-
-held-ids : {v : List ℕ} → Shaped v → (n : ℕ) → n ≤ Layout.stepsIn v → idsHeld (spread (partAt v) 0 n) ≡ sumBelow (idsAt v) n
-unfolding sumBelow
-held-ids {v} s zero h = unfold idsHeld total in refl
-held-ids {v} s (suc n) h =
-    let k = s .steps in
-    let r = s .room in
-    ap idsHeld (first-suc (partAt v) n)
-    ∙ ids-snoc (spread (partAt v) 0 n) (partAt v n)
-    ∙ ap₂ _+_ (held-ids s n (omega arith)) (unfold partAt in row-ids (s .each-step n h) (omega arith))
 
 -- ---- what a shaped sheet holds, taken together
 
@@ -168,7 +103,7 @@ module _ {v : List ℕ} (s : Shaped v) (k : ℕ) where
   style-entries-all = rw styles-raised (rw (s .style-entries-end) at (style-entries-first (Layout.stylesIn v) (omega arith)))
 
   pub ids-all : idsHeld (stepsOf (map (shiftRule k) (sheetOf v .rules))) ≡ Layout.idsIn v
-  ids-all = ap idsHeld steps-all ∙ held-ids s (Layout.stepsIn v) (omega arith) ∙ s .ids-sum
+  ids-all = ap idsHeld steps-all ∙ first-ids s (Layout.stepsIn v) (omega arith) ∙ s .ids-sum
 
   pub step-words-all : stepsWords (map (shiftRule k) (sheetOf v .rules)) ≡ flatMap stepWords (spread (partAt v) 0 (Layout.stepsIn v))
   step-words-all = steps-flat (map (shiftRule k) (sheetOf v .rules)) ∙ ap (flatMap stepWords) steps-all
@@ -301,10 +236,6 @@ largest-most limit (a ∷ l) e = elim (le-or-lt (largest l) a) [
   | inr h ↦ rw (lt-ltb a (largest l) h) (largest-most limit l (and-right (leb a limit) _ e))
 ]
 
-most-below : (limit : ℕ) (f : ℕ → ℕ) (n : ℕ) → ((i : ℕ) → i < n → f i ≤ limit) → atMost limit (spread f 0 n) ≡ true
-most-below limit f n h =
-    at-most-intro limit (spread f 0 n) (λ i l. let q : i < n = rw (length-spread f 0 n) at l in rw (getD-spread f 0 n i 0 q, zero-add i) (h i q))
-
 -- none is over 65,535
 pub index-most : {v : List ℕ} → Shaped v → largest (indexesOf (sheetOf v)) ≤ 65535
 index-most {v} s =
@@ -313,5 +244,5 @@ index-most {v} s =
     rw (indexes-are v)
     (largest-most 65535 (spread styles 0 (Layout.stylesIn v) ++ spread rules 0 (Layout.rulesIn v))
     (at-most-append 65535 (spread styles 0 (Layout.stylesIn v)) (spread rules 0 (Layout.rulesIn v))
-    (most-below 65535 styles (Layout.stylesIn v) (λ i h. s .each-style i h .source))
-    (most-below 65535 rules (Layout.rulesIn v) (λ i h. s .each-rule i h .source))))
+    (most-spread 65535 styles 0 (Layout.stylesIn v) (λ i l h. s .each-style i (omega arith) .source))
+    (most-spread 65535 rules 0 (Layout.rulesIn v) (λ i l h. s .each-rule i (omega arith) .source))))

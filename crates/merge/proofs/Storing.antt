@@ -16,9 +16,11 @@ use Rattle.sheet.specs.Shape.{sheetShape}
 use Rattle.sheet.specs.Laying.{stepWords, ruleWords, styleWords, layEntries, layRules, layStyles, countWords, lay}
 use Rattle.sheet.proofs.Shaped.{shaped, row-from, step-end-within, entry-end-within, style-entry-end-within}
 use Rattle.given.specs.declared.Counts.{Counts}
-use Rattle.given.specs.Pushing.{indexesOf, shiftStyle, shiftRule, isNil, largest, nextAfter, pushedCascade}
-use Rattle.given.specs.Leaves.{CountsOf, Within, partOf, heldRow, heldStyleRow, countsList, sumCounts}
-use Rattle.merge.proofs.Joined.{rowsBelow, rows-none, rows-more, length-below, length-step, held-part, step-rows, rule-rows, style-rows, pool-columns, entries-all, style-entries-all, step-words-all, ids-all, rules-many, steps-many, entries-many, styles-many, style-entries-many, index-most}
+use Rattle.sheet.specs.Reading.{isNil}
+use Rattle.given.specs.Pushing.{indexesOf, shiftStyle, shiftRule, largest, nextAfter, pushedCascade}
+use Rattle.given.specs.Leaves.{CountsOf, partOf, heldRow, heldStyleRow, countsList, sumCounts}
+use Rattle.laid.proofs.Frame.{length-step}
+use Rattle.merge.proofs.Joined.{rowsBelow, rows-none, rows-more, length-below, held-part, step-rows, rule-rows, style-rows, pool-columns, entries-all, style-entries-all, step-words-all, ids-all, rules-many, steps-many, entries-many, styles-many, style-entries-many, index-most}
 
 -- ---- a pool
 
@@ -242,19 +244,6 @@ pub largest-small : (v : List ℕ) (x : ℕ) → sheetShape v ≡ true → x ≡
 largest-small v x e f = rw f (index-most (shaped v e))
 
 -- ---- counts, and the whole
-
-pub counts-within : (w : List ℕ) (c : Counts) → sheetShape w ≡ true → CountsOf w c → Within c
-counts-within w c e k =
-    let s = shaped w e in
-    record {
-      rules = rw (k .rules) (s .rules);
-      steps = rw (k .steps) (s .steps);
-      ids = rw (k .ids) (s .ids);
-      entries = rw (k .entries) (let h = s .entries in omega arith);
-      styles = rw (k .styles) (s .styles);
-      style-entries = rw (k .style-entries) (s .style-entries);
-      next = rw (k .next) (s .next);
-    }
 
 abbrev added : Counts → Counts → ℕ → Counts
 added c o next = record {

@@ -65,7 +65,7 @@ tags-same : {t t′ p p′ : Option ℕ} {c c′ q q′ : List ℕ} → t ≡ t�
 tags-same e f g h = rw (e, f, g, h)
 
 -- ids that ascend are a set already
-sort-same : (l : List ℕ) → ascends l ≡ true → sort l ≡ l
+pub sort-same : (l : List ℕ) → ascends l ≡ true → sort l ≡ l
 sort-same l e = ascending-ext (sort l) l (sort-ascending l) (ascends-is l .0 e) (sort-in l)
 
 module _ (w : List ℕ) (shape : sheetShape w ≡ true) where

@@ -5,7 +5,8 @@ use lib.ListN.{getD}
 
 -- ---- the counts
 
--- Rules, their steps, the ids of all steps, the entries of all rules; direct styles, and the entries of all of these; the next source index
+-- Rules, their steps, the ids of all steps, the entries of all rules; direct styles, and the entries of all of these; the next source index.
+-- Word 7 holds nothing
 abbrev pub rulesIn : List ℕ → ℕ
 rulesIn w = getD w 0 0
 

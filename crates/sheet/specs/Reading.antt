@@ -18,6 +18,7 @@ use Rattle.typed.specs.declared.SelectorStep.{SelectorStep}
 use Rattle.typed.specs.declared.TypeChoice.{TypeChoice}
 use Rattle.typed.specs.declared.PartChoice.{PartChoice}
 use Rattle.style.specs.Entries.{Entry}
+use Rattle.style.specs.Looking.{oneIf}
 use Rattle.sheet.specs.declared.Counting.{Counting}
 use Rattle.sheet.specs.declared.Counting.the-variants as counting
 use Rattle.sheet.specs.declared.Emptiness.{Emptiness}
@@ -92,10 +93,6 @@ weightVerdict w r ranking = firstOf (check 11 (not (sheetShape w)) ∷ check 9 (
 abbrev pub isNil : {A : Type 0} → List A → Bool
 isNil [] = true
 isNil (x ∷ l) = false
-
-abbrev pub oneIf : Bool → ℕ
-oneIf true = 1
-oneIf false = 0
 
 -- `StyleCascade::is_empty`: neither direct styles nor rules
 unfoldable pub emptinessOf : List ℕ → List ℕ

@@ -16,17 +16,50 @@ use Rattle.sheet.specs.Sheets.{ruleStepEnds, ruleEntryEnds, styleEntryEn
 unfoldable pub roomEnough : List ℕ → Bool
 roomEnough w = leb Layout.SHEET-WORDS (length w)
 
--- "counts past the room or the sizes": 256 rules, 8 steps each, 8,192 ids; the next source index at most 65,536;
+-- "counts past the room or the sizes": 256 rules,
+abbrev pub rulesFit : List ℕ → Bool
+rulesFit w = leb (Layout.rulesIn w) 256
+
+-- 8 steps each,
+abbrev pub stepsFit : List ℕ → Bool
+stepsFit w = leb (Layout.stepsIn w) 2048
+
+-- 8,192 ids,
+abbrev pub idsFit : List ℕ → Bool
+idsFit w = leb (Layout.idsIn w) 8192
+
+-- the next source index at most 65,536,
+abbrev pub nextFits : List ℕ → Bool
+nextFits w = leb (Layout.nextIn w) 65536
+
+-- 64 direct styles,
+abbrev pub stylesFit : List ℕ → Bool
+stylesFit w = leb (Layout.stylesIn w) 64
+
+-- of 32 entries each,
+abbrev pub styleEntriesFit : List ℕ → Bool
+styleEntriesFit w = leb (Layout.styleEntriesIn w) 2048
+
+-- and 4,096 entries in the whole sheet
+abbrev pub entriesFit : List ℕ → Bool
+entriesFit w = leb (Layout.entriesIn w + Layout.styleEntriesIn w) 4096
+
 unfoldable pub ruleCountsFit : List ℕ → Bool
-ruleCountsFit w = leb (Layout.rulesIn w) 256 && (leb (Layout.stepsIn w) 2048 && (leb (Layout.idsIn w) 8192 && leb (Layout.nextIn w) 65536))
+ruleCountsFit w = rulesFit w && (stepsFit w && (idsFit w && nextFits w))
 
--- 64 direct styles of 32 entries each, and 4,096 entries in the whole sheet
 unfoldable pub styleCountsFit : List ℕ → Bool
-styleCountsFit w = leb (Layout.stylesIn w) 64 && (leb (Layout.styleEntriesIn w) 2048 && leb (Layout.entriesIn w + Layout.styleEntriesIn w) 4096)
+styleCountsFit w = stylesFit w && (styleEntriesFit w && entriesFit w)
 
--- "lists not end to end": list k ends at or after its start; and it has at most `size` elements
+-- "lists not end to end": list k ends at or after its start;
+abbrev pub endToEnd : (ℕ → ℕ) → ℕ → Bool
+endToEnd ends k = leb (startOf ends k) (ends k)
+
+-- and it has at most `size` elements
+abbrev pub notLonger : (ℕ → ℕ) → ℕ → ℕ → Bool
+notLonger ends size k = leb (ends k - startOf ends k) size
+
 unfoldable pub listFits : (ℕ → ℕ) → ℕ → ℕ → Bool
-listFits ends size k = leb (startOf ends k) (ends k) && leb (ends k - startOf ends k) size
+listFits ends size k = endToEnd ends k && notLonger ends size k
 
 -- "a code out of range": an origin rank over 7; and a source index over 65,535
 unfoldable pub originFits : List ℕ → ℕ → ℕ → ℕ → Bool
@@ -81,9 +114,16 @@ stepFine w s =
     && (tagsAscend (rowAt 8 w (Layout.stepPlace s))
     && combinatorFits w s))
 
--- property words at most 65,535, kinds at most 3: of the n entries of a pool
+-- of the n entries of a pool: property words at most 65,535,
+abbrev pub propertiesFit : List ℕ → ℕ → ℕ → Bool
+propertiesFit w base n = atMost 65535 (wordsFrom w base n)
+
+-- kinds at most 3
+abbrev pub kindsFit : List ℕ → ℕ → ℕ → ℕ → Bool
+kindsFit w base room n = atMost 3 (wordsFrom w (base + room) n)
+
 unfoldable pub poolFits : List ℕ → ℕ → ℕ → ℕ → Bool
-poolFits w base room n = atMost 65535 (wordsFrom w base n) && atMost 3 (wordsFrom w (base + room) n)
+poolFits w base room n = propertiesFit w base n && kindsFit w base room n
 
 -- the ids of step s
 abbrev pub idsAt : List ℕ → ℕ → ℕ

@@ -1,5 +1,7 @@
 use native.Mathlib.Omega.{arith}
-use Rattle.merge.proofs.Storing.{counts-within, counts-added}
+use Rattle.sheet.proofs.Shaped.{shaped}
+use Rattle.given.proofs.Counting.{counts-within}
+use Rattle.merge.proofs.Storing.{counts-added}
 use borrow.Author.Needs.{needs}
 use Rattle.merge.proofs.held.cascade_counts.Statement.{statement}
 use Rattle.merge.proofs.held.cascade_counts.Tie as tie
@@ -11,42 +13,42 @@ add-t4 : tie.Need-add-t4
 add-t4 c =
     let start = c .before .before .before .before in
     let w = start .pre .0 in
-    let o = counts-within _ _ (start .pre .1) (c .before .before .counts .ensures) in
+    let o = counts-within (c .before .before .counts .ensures) (shaped _ (start .pre .1)) in
     record { fits = omega (arith, w .rules, o .rules) }
 
 add-t5 : tie.Need-add-t5
 add-t5 c =
     let start = c .before .before .before .before .before .before in
     let w = start .pre .0 in
-    let o = counts-within _ _ (start .pre .1) (c .before .before .before .before .counts .ensures) in
+    let o = counts-within (c .before .before .before .before .counts .ensures) (shaped _ (start .pre .1)) in
     record { fits = omega (arith, w .steps, o .steps) }
 
 add-t6 : tie.Need-add-t6
 add-t6 c =
     let start = c .before .before .before .before .before .before .before .before in
     let w = start .pre .0 in
-    let o = counts-within _ _ (start .pre .1) (c .before .before .before .before .before .before .counts .ensures) in
+    let o = counts-within (c .before .before .before .before .before .before .counts .ensures) (shaped _ (start .pre .1)) in
     record { fits = omega (arith, w .ids, o .ids) }
 
 add-t7 : tie.Need-add-t7
 add-t7 c =
     let start = c .before .before .before .before .before .before .before .before .before .before in
     let w = start .pre .0 in
-    let o = counts-within _ _ (start .pre .1) (c .before .before .before .before .before .before .before .before .counts .ensures) in
+    let o = counts-within (c .before .before .before .before .before .before .before .before .counts .ensures) (shaped _ (start .pre .1)) in
     record { fits = omega (arith, w .entries, o .entries) }
 
 add-t8 : tie.Need-add-t8
 add-t8 c =
     let start = c .before .before .before .before .before .before .before .before .before .before .before .before in
     let w = start .pre .0 in
-    let o = counts-within _ _ (start .pre .1) (c .before .before .before .before .before .before .before .before .before .before .counts .ensures) in
+    let o = counts-within (c .before .before .before .before .before .before .before .before .before .before .counts .ensures) (shaped _ (start .pre .1)) in
     record { fits = omega (arith, w .styles, o .styles) }
 
 add-t9 : tie.Need-add-t9
 add-t9 c =
     let start = c .before .before .before .before .before .before .before .before .before .before .before .before .before .before in
     let w = start .pre .0 in
-    let o = counts-within _ _ (start .pre .1) (c .before .before .before .before .before .before .before .before .before .before .before .before .counts .ensures) in
+    let o = counts-within (c .before .before .before .before .before .before .before .before .before .before .before .before .counts .ensures) (shaped _ (start .pre .1)) in
     record { fits = omega (arith, w .style-entries, o .style-entries) }
 
 next-after-requires : tie.Need-next-after-requires

@@ -1,5 +1,7 @@
 use Rattle.given.proofs.Accepted.{cascade-accepted}
-use Rattle.merge.proofs.Storing.{counts-within, cascade-put}
+use Rattle.sheet.proofs.Shaped.{shaped}
+use Rattle.given.proofs.Counting.{counts-within}
+use Rattle.merge.proofs.Storing.{cascade-put}
 use borrow.Author.Needs.{needs}
 use Rattle.merge.proofs.held.put_cascade.Statement.{statement}
 use Rattle.merge.proofs.held.put_cascade.Tie as tie
@@ -11,19 +13,19 @@ put-rules-requires : tie.Need-put-rules-requires
 put-rules-requires c κs =
     let k = c .before in
     let a = cascade-accepted _ _ (k .before .before .before .before .pre) in
-    (counts-within _ _ (a .shape) (k .counts .ensures), a .other-shape)
+    (counts-within (k .counts .ensures) (shaped _ (a .shape)), a .other-shape)
 
 put-styles-requires : tie.Need-put-styles-requires
 put-styles-requires c κs =
     let k = c .before .before .before .before .before in
     let a = cascade-accepted _ _ (k .before .before .before .before .pre) in
-    (counts-within _ _ (a .shape) (k .counts .ensures), a .other-shape)
+    (counts-within (k .counts .ensures) (shaped _ (a .shape)), a .other-shape)
 
 cascade-counts-requires : tie.Need-cascade-counts-requires
 cascade-counts-requires c κs =
     let k = c .before .before .before .before .before .before .before .before .before in
     let a = cascade-accepted _ _ (k .before .before .before .before .pre) in
-    (counts-within _ _ (a .shape) (k .counts .ensures), a .other-shape)
+    (counts-within (k .counts .ensures) (shaped _ (a .shape)), a .other-shape)
 
 put-counts-requires : tie.Need-put-counts-requires
 put-counts-requires c κs = search needs
