@@ -1,23 +1,20 @@
 -- Laws of the test of a sheet's shape, by each way through the code. Assumes nothing.
-use mathlib.Core.Path.{_≡_, refl, sym, _∙_}
+use mathlib.Core.Path.{_≡_, refl, sym, _∙_, ap}
 use mathlib.Core.Bool.{Bool, true, false, not, _&&_}
 use mathlib.Core.List.{List}
-use mathlib.Core.Logic.{inl, inr}
 use Prim.Native.Nat.{ℕ, _+_, _-_, _*_, _≤_, _<_}
 use native.Mathlib.Numerals.{add-one}
 use native.Mathlib.Omega.{arith}
 use lib.ListN.{getD, take, drop}
 use lib.Dec.{leb, eqb}
-use borrow.Author.Tests.{lt-ltb, le-ltb, le-leb, lt-leb, not-true, not-false}
+use borrow.Author.Tests.{lt-ltb, le-ltb, not-true, not-false}
 use Rattle.theory.specs.Lists.{ascends, atMost, sumBelow}
-use Rattle.theory.proofs.Lists.{le-or-lt}
 use Rattle.lent.specs.All.{allBelow}
 use Rattle.lent.specs.Pool.{endsIn, startOf, listAt}
 use Rattle.selector.specs.Rows.{rowAt, wordsFrom}
-use Rattle.selector.specs.Checks.{rowFits, tagsAscend}
 use Rattle.sheet.specs.Layout
 use Rattle.sheet.specs.Sheets.{ruleStepEnds}
-use Rattle.sheet.specs.Shape.{listFits, firstUntied, propertiesAscend, flagsFit, poolFits, idsAt, endsAt, idsMeet}
+use Rattle.sheet.specs.Shape.{entriesFit, endToEnd, firstUntied, propertiesAscend, poolFits, idsAt, endsAt, idsMeet}
 
 -- ---- tests one after the other
 
@@ -40,9 +37,6 @@ all-read p a x b e f = e ∙ rw f
 pub pool-read : (w : List ℕ) (base room a x : ℕ) (b : Bool) → b ≡ poolFits w base room x → x ≡ a → b ≡ poolFits w base room a
 pool-read w base room a x b e f = e ∙ rw f
 
-pub row-read : (w : List ℕ) (a x : ℕ) (b : Bool) → b ≡ rowFits 8 w x → x ≡ a → b ≡ rowFits 8 w a
-row-read w a x b e f = e ∙ rw f
-
 module _ (ends : ℕ → ℕ) (a c x y : ℕ) (b p : Bool) (e : p ≡ endsAt ends x y) where
   pub ends-no : not p ≡ true → x ≡ a → y ≡ c → false ≡ (endsAt ends a c && b)
   ends-no t f g = rw (← f, ← g) (and-no (endsAt ends x y) b p e t)
@@ -51,41 +45,19 @@ module _ (ends : ℕ → ℕ) (a c x y : ℕ) (b p : Bool) (e : p ≡ endsAt end
   ends-yes t f g r h = rw (← f, ← g) (and-yes (endsAt ends x y) b p r e t h)
 
 -- a number x that was read, and is a
-pub leb-no : (x a n : ℕ) (b : Bool) → x ≡ a → n < x → false ≡ (leb a n && b)
-leb-no x a n b e h = rw (← e, lt-leb x n h)
+pub leb-read : (x a n : ℕ) → x ≡ a → leb x n ≡ leb a n
+leb-read x a n e = rw e
 
-pub leb-yes : (x a n : ℕ) (b r : Bool) → x ≡ a → x ≤ n → r ≡ b → r ≡ (leb a n && b)
-leb-yes x a n b r e h g = rw (← e, le-leb x n h) g
-
-pub leb-last : (x a n : ℕ) → x ≡ a → leb x n ≡ leb a n
-leb-last x a n e = rw e
-
-pub ruleset limits = (leb-no, leb-yes, leb-last)
-
--- a length
-pub short : (x n : ℕ) (b : Bool) → x < n → false ≡ (leb n x && b)
-short x n b h = rw (lt-leb n x h)
-
-pub long : (x n : ℕ) (b r : Bool) → n ≤ x → r ≡ b → r ≡ (leb n x && b)
-long x n b r h g = rw (le-leb n x h) g
-
--- the sum of two counts
-leb-same : (a b c d : ℕ) → (a ≤ b → c ≤ d) → (b < a → d < c) → leb a b ≡ leb c d
-leb-same a b c d f g = elim (le-or-lt a b) [ inl h ↦ rw (le-leb a b h, le-leb c d (f h)) | inr h ↦ rw (lt-leb a b h, lt-leb c d (g h)) ]
-
-pub sum-last : (x e a b : ℕ) → x ≡ a → e ≡ b → e ≤ 2048 → leb x (4096 - e) ≡ leb (a + b) 4096
-sum-last x e a b p q h = leb-same x (4096 - e) (a + b) 4096 (λ k. omega arith) (λ k. omega arith)
+-- two counts, widened and summed
+pub entries-are : (w : List ℕ) (x y x′ y′ : ℕ) → x ≡ Layout.entriesIn w → x′ ≡ x → y ≡ Layout.styleEntriesIn w → y′ ≡ y → leb (x′ + y′) 4096 ≡ entriesFit w
+unfolding entriesFit
+entries-are w x y x′ y′ e f g h = rw (f, h, e, g)
 
 -- ---- lists
 
-module _ (ends : ℕ → ℕ) (size k from to : ℕ) (e : from ≡ startOf ends k) (f : to ≡ ends k) where
-  pub list-falls : to < from → false ≡ listFits ends size k
-  unfolding listFits
-  list-falls h = rw (← e, ← f, lt-leb from to h)
-
-  pub list-rises : from ≤ to → leb (to - from) size ≡ listFits ends size k
-  unfolding listFits
-  list-rises h = rw (← e, ← f, le-leb from to h)
+pub list-ends : (ends : ℕ → ℕ) (k from to : ℕ) → from ≡ startOf ends k → to ≡ ends k → leb from to ≡ endToEnd ends k
+unfolding endToEnd
+list-ends ends k from to e f = rw (e, f)
 
 pub properties-are : (w pool l : List ℕ) (at : ℕ) (ends : ℕ → ℕ) (k : ℕ) (b : Bool)
     → pool ≡ drop at w
@@ -106,38 +78,28 @@ module _ (w : List ℕ) (r first to : ℕ) (e : first ≡ startOf (ruleStepEnds 
 
 -- ---- steps
 
-module _ (w : List ℕ) (s at x : ℕ) (q : at ≡ Layout.stepPlace s) (e : x ≡ getD w at 0) where
-  pub flag-over : 1 < x → false ≡ flagsFit w s
-  unfolding flagsFit
-  flag-over h = rw (← q, ← e, lt-leb x 1 h)
+module _ (w : List ℕ) (place at : ℕ) (q : at ≡ place) where
+  -- the first word of a row, and the one c further
+  pub row-first : (x n : ℕ) → x ≡ getD w at 0 → leb x n ≡ leb (getD w place 0) n
+  row-first x n e = rw (e, q)
 
-  pub flag-last : x ≤ 1 → (y : ℕ) → y ≡ getD w (at + 2) 0 → leb y 1 ≡ flagsFit w s
-  unfolding flagsFit
-  flag-last h y f = rw (← q, ← e, ← f, le-leb x 1 h)
+  pub row-word : (c x n : ℕ) → x ≡ getD w (at + c) 0 → leb x n ≡ leb (getD w (place + c) 0) n
+  row-word c x n e = rw (e, q)
 
-module _ (w : List ℕ) (place at : ℕ) (q : at ≡ place) (l : List ℕ) (b : Bool) (e : l ≡ wordsFrom w (at + 6) (getD w (at + 4) 0)) (f : b ≡ ascends l) where
-  pub classes-unsorted : not b ≡ true → false ≡ tagsAscend (rowAt 8 w place)
+  -- its ids
+  pub row-classes : (l : List ℕ) (b : Bool) → l ≡ wordsFrom w (at + 6) (getD w (at + 4) 0) → b ≡ ascends l → b ≡ ascends (rowAt 8 w place .classes)
   unfolding rowAt
-  classes-unsorted t = rw (← q, ← e, ← f, not-true b t)
+  row-classes l b e f = rw (← q, ← e) f
 
-  pub pseudos-ascend : not b ≡ false → (m : List ℕ) (r : Bool) → m ≡ wordsFrom w (at + 14) (getD w (at + 5) 0) → r ≡ ascends m → r ≡ tagsAscend (rowAt 8 w place)
+  pub row-pseudos : (l : List ℕ) (b : Bool) → l ≡ wordsFrom w (at + 14) (getD w (at + 5) 0) → b ≡ ascends l → b ≡ ascends (rowAt 8 w place .pseudos)
   unfolding rowAt
-  pseudos-ascend t m r g h = rw (← q, ← e, ← f, not-false b t, ← g) h
+  row-pseudos l b e f = rw (← q, ← e) f
 
 -- ---- pools
 
 -- the words from `base` up to `base + n`
-words-part : (w l : List ℕ) (base n n′ : ℕ) → n′ ≡ n → l ≡ take (base + n′ - base) (drop base w) → l ≡ wordsFrom w base n
-words-part w l base n n′ e p = let z : base + n′ - base ≡ n = omega arith in rw z at p
-
-module _ (w l : List ℕ) (base room n n′ : ℕ) (b : Bool) (e : n′ ≡ n) (p : l ≡ take (base + n′ - base) (drop base w)) (q : b ≡ atMost 65535 l) where
-  pub pool-over : not b ≡ true → false ≡ poolFits w base room n
-  unfolding poolFits
-  pool-over t = rw (← words-part w l base n n′ e p) (and-no _ _ b q t)
-
-  pub pool-kinds : not b ≡ false → (m : List ℕ) (k : ℕ) (r : Bool) → k ≡ n → m ≡ take (base + room + k - (base + room)) (drop (base + room) w) → r ≡ atMost 3 m → r ≡ poolFits w base room n
-  unfolding poolFits
-  pool-kinds t m k r g h i = rw (← words-part w l base n n′ e p, ← words-part w m (base + room) n k g h) (and-yes _ _ b r q t i)
+pub words-most : (w l : List ℕ) (limit base n n′ : ℕ) (b : Bool) → n′ ≡ n → l ≡ take (base + n′ - base) (drop base w) → b ≡ atMost limit l → b ≡ atMost limit (wordsFrom w base n)
+words-most w l limit base n n′ b e p q = let z : base + n′ - base ≡ n = omega arith in q ∙ ap (atMost limit) (rw z at p)
 
 -- ---- sums and ends
 

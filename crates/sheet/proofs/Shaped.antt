@@ -1,16 +1,16 @@
 -- What the test of a sheet's shape means, part by part, and what follows of a shaped sheet. Assumes nothing.
 use mathlib.Core.Path.{_≡_, refl}
-use mathlib.Core.Bool.{Bool, true, _&&_, not}
+use mathlib.Core.Bool.{Bool, true, _&&_}
 use mathlib.Core.List.{List, [], _∷_}
 use mathlib.Core.Logic.{inl, inr}
 use Prim.Native.Nat.{ℕ, zero, suc, _+_, _-_, _≤_, _<_}
 use native.Mathlib.Omega.{arith}
 use lib.ListN.{length, getD, take, drop}
 use lib.Seq.{take-nil, getD-drop}
-use lib.Dec.{ltb, leb}
-use borrow.Author.Tests.{lt-ltb, le-ltb, ltb-false, le-leb, leb-true, eq-eqb, eqb-true, not-true}
+use lib.Dec.{leb}
+use borrow.Author.Tests.{lt-ltb, le-ltb, le-leb, leb-true, eq-eqb, eqb-true}
 use Rattle.theory.specs.Lists.{ascends, atMost, sumBelow}
-use Rattle.theory.proofs.Lists.{le-or-lt, and-left, and-right}
+use Rattle.theory.proofs.Lists.{le-or-lt, and-left, and-right, and-both}
 use Rattle.lent.specs.All.{allBelow}
 use Rattle.lent.specs.Pool.{endsIn, startOf, listAt}
 use Rattle.lent.proofs.All.{all-at, all-intro}
@@ -19,7 +19,7 @@ use Rattle.selector.specs.Rows.{rowAt, wordsFrom}
 use Rattle.selector.specs.Checks.{rowFits, tagsAscend}
 use Rattle.sheet.specs.Layout
 use Rattle.sheet.specs.Sheets.{ruleStepEnds, ruleEntryEnds, styleEntryEnds}
-use Rattle.sheet.specs.Shape.{roomEnough, ruleCountsFit, styleCountsFit, countsFit, listFits, originFits, sourceFits, propertiesAscend, firstUntied, ruleListsFit, ruleFine, styleFine, flagsFit, combinatorFits, stepFine, poolFits, idsAt, endsAt, idsMeet, endsMeet, rowsFine, poolsFit, sheetShape}
+use Rattle.sheet.specs.Shape.{roomEnough, rulesFit, stepsFit, idsFit, nextFits, ruleCountsFit, stylesFit, styleEntriesFit, entriesFit, styleCountsFit, countsFit, endToEnd, notLonger, listFits, originFits, sourceFits, propertiesAscend, firstUntied, ruleListsFit, ruleFine, styleFine, typeFlagFits, partFlagFits, classesFit, pseudosFit, classesAscend, pseudosAscend, combinatorFits, stepFine, propertiesFit, kindsFit, poolFits, idsAt, endsAt, idsMeet, endsMeet, rowsFine, poolsFit, sheetShape}
 
 -- ---- the parts
 
@@ -90,14 +90,14 @@ four a b c d e = let (f, g, h) = three b c d (and-right a (b && (c && d)) e) in 
 
 module _ (ends : ℕ → ℕ) (size k : ℕ) where
   list-to : listFits ends size k ≡ true → ListShaped ends size k
-  unfolding listFits
+  unfolding listFits endToEnd notLonger
   list-to e =
-      let (u, f) = two (leb (startOf ends k) (ends k)) (leb (ends k - startOf ends k) size) e in
+      let (u, f) = two (endToEnd ends k) (notLonger ends size k) e in
       let h = leb-true (startOf ends k) (ends k) u in
       record { up = h; few = omega (arith, leb-true (ends k - startOf ends k) size f) }
 
   list-from : ListShaped ends size k → listFits ends size k ≡ true
-  unfolding listFits
+  unfolding listFits endToEnd notLonger
   list-from l = rw (le-leb (startOf ends k) (ends k) (l .up), le-leb (ends k - startOf ends k) size (omega arith))
 
 module _ (limit : ℕ) where
@@ -123,13 +123,13 @@ module _ (w : List ℕ) where
 
   module _ (base room n : ℕ) where
     pool-to : poolFits w base room n ≡ true → PoolShaped w base room n
-    unfolding poolFits
+    unfolding poolFits propertiesFit kindsFit
     pool-to t =
-        let (p, k) = two (atMost 65535 (wordsFrom w base n)) (atMost 3 (wordsFrom w (base + room) n)) t in
+        let (p, k) = two (propertiesFit w base n) (kindsFit w base room n) t in
         record { properties = λ e h. words-to 65535 base n e h p; kinds = λ e h. words-to 3 (base + room) n e h k }
 
     pool-from : PoolShaped w base room n → poolFits w base room n ≡ true
-    unfolding poolFits
+    unfolding poolFits propertiesFit kindsFit
     pool-from p = rw (words-from 65535 base n (p .properties), words-from 3 (base + room) n (p .kinds))
 
   -- ---- a rule, a style, a step
@@ -184,28 +184,28 @@ module _ (w : List ℕ) where
 
   module _ (s : ℕ) where
     step-to : stepFine w s ≡ true → StepShaped w s
-    unfolding stepFine flagsFit combinatorFits
+    unfolding stepFine typeFlagFits partFlagFits classesFit pseudosFit classesAscend pseudosAscend combinatorFits
     step-to e =
-        let at = Layout.stepPlace s in
-        let (f, r, t, c) = four (flagsFit w s) (rowFits 8 w at) (tagsAscend (rowAt 8 w at)) (combinatorFits w s) e in
-        let (g, h) = two (leb (getD w at 0) 1) (leb (getD w (at + 2) 0) 1) f in
-        let (k, p) = two (not (ltb 8 (getD w (at + 4) 0))) (not (ltb 8 (getD w (at + 5) 0))) r in
+        let (t, f, c, rest) = four (typeFlagFits w s) (partFlagFits w s) (classesFit w s) (pseudosFit w s && (classesAscend w s && (pseudosAscend w s && combinatorFits w s))) e in
+        let (p, d, q, k) = four (pseudosFit w s) (classesAscend w s) (pseudosAscend w s) (combinatorFits w s) rest in
         record {
-          type-flag = leb-true _ 1 g;
-          part-flag = leb-true _ 1 h;
-          classes = ltb-false 8 _ (not-true _ k);
-          pseudos = ltb-false 8 _ (not-true _ p);
-          sorted = t;
-          combinator = leb-true _ 1 c;
+          type-flag = leb-true _ 1 t;
+          part-flag = leb-true _ 1 f;
+          classes = leb-true _ 8 c;
+          pseudos = leb-true _ 8 p;
+          sorted = and-both _ _ d q;
+          combinator = leb-true _ 1 k;
         }
+
+    step-from : StepShaped w s → stepFine w s ≡ true
+    unfolding stepFine typeFlagFits partFlagFits classesFit pseudosFit classesAscend pseudosAscend combinatorFits
+    step-from t =
+        let (d, q) = two (ascends (rowAt 8 w (Layout.stepPlace s) .classes)) (ascends (rowAt 8 w (Layout.stepPlace s) .pseudos)) (t .sorted) in
+        rw (le-leb _ 1 (t .type-flag), le-leb _ 1 (t .part-flag), le-leb _ 8 (t .classes), le-leb _ 8 (t .pseudos), d, q, le-leb _ 1 (t .combinator))
 
     -- the counts of its ids, as callees of `selector` ask
     pub row-from : StepShaped w s → rowFits 8 w (Layout.stepPlace s) ≡ true
     row-from t = rw (le-ltb 8 _ (t .classes), le-ltb 8 _ (t .pseudos))
-
-    step-from : StepShaped w s → stepFine w s ≡ true
-    unfolding stepFine flagsFit combinatorFits
-    step-from t = rw (le-leb _ 1 (t .type-flag), le-leb _ 1 (t .part-flag), row-from t, t .sorted, le-leb _ 1 (t .combinator))
 
 -- ---- the whole
 
@@ -215,9 +215,9 @@ module _ (w : List ℕ) where
   counts-to e = let (r, c, s) = three (roomEnough w) (ruleCountsFit w) (styleCountsFit w) e in (leb-true _ (length w) r, c, s)
 
   rule-counts-to : ruleCountsFit w ≡ true → (Layout.rulesIn w ≤ 256) × (Layout.stepsIn w ≤ 2048) × (Layout.idsIn w ≤ 8192) × (Layout.nextIn w ≤ 65536)
-  unfolding ruleCountsFit
+  unfolding ruleCountsFit rulesFit stepsFit idsFit nextFits
   rule-counts-to e =
-      let (r, s, i, n) = four (leb (Layout.rulesIn w) 256) (leb (Layout.stepsIn w) 2048) (leb (Layout.idsIn w) 8192) (leb (Layout.nextIn w) 65536) e in
+      let (r, s, i, n) = four (rulesFit w) (stepsFit w) (idsFit w) (nextFits w) e in
       (leb-true _ 256 r, leb-true _ 2048 s, leb-true _ 8192 i, leb-true _ 65536 n)
 
   -- as callees ask for it
@@ -225,9 +225,9 @@ module _ (w : List ℕ) where
   counts-steps n e f = let (_, c, _) = counts-to e in let (_, s, _, _) = rule-counts-to c in rw f s
 
   style-counts-to : styleCountsFit w ≡ true → (Layout.stylesIn w ≤ 64) × (Layout.styleEntriesIn w ≤ 2048) × (Layout.entriesIn w + Layout.styleEntriesIn w ≤ 4096)
-  unfolding styleCountsFit
+  unfolding styleCountsFit stylesFit styleEntriesFit entriesFit
   style-counts-to e =
-      let (s, n, m) = three (leb (Layout.stylesIn w) 64) (leb (Layout.styleEntriesIn w) 2048) (leb (Layout.entriesIn w + Layout.styleEntriesIn w) 4096) e in
+      let (s, n, m) = three (stylesFit w) (styleEntriesFit w) (entriesFit w) e in
       (leb-true _ 64 s, leb-true _ 2048 n, leb-true _ 4096 m)
 
   ends-to : endsMeet w ≡ true
@@ -279,7 +279,7 @@ module _ (w : List ℕ) where
       }
 
   counts-from : Shaped w → countsFit w ≡ true
-  unfolding countsFit roomEnough ruleCountsFit styleCountsFit
+  unfolding countsFit roomEnough ruleCountsFit rulesFit stepsFit idsFit nextFits styleCountsFit stylesFit styleEntriesFit entriesFit
   counts-from s = rw (
     le-leb Layout.SHEET-WORDS (length w) (s .room),
     le-leb (Layout.rulesIn w) 256 (s .rules),

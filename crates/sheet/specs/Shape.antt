@@ -1,14 +1,13 @@
 -- The shape of a sheet: 01's row 11. Assumes nothing.
 use mathlib.Core.Bool.{Bool, true, _&&_, cond}
 use mathlib.Core.List.{List}
-use Prim.Native.Nat.{ℕ, _+_, _-_, _*_}
-use lib.ListN.{length, getD, take, drop}
+use Prim.Native.Nat.{ℕ, _+_, _-_}
+use lib.ListN.{length, getD, drop}
 use lib.Dec.{leb, ltb, eqb}
 use Rattle.theory.specs.Lists.{ascends, atMost, sumBelow}
 use Rattle.lent.specs.All.{allBelow}
 use Rattle.lent.specs.Pool.{endsIn, startOf, listAt}
 use Rattle.selector.specs.Rows.{rowAt, wordsFrom}
-use Rattle.selector.specs.Checks.{rowFits, tagsAscend}
 use Rattle.sheet.specs.Layout
 use Rattle.sheet.specs.Sheets.{ruleStepEnds, ruleEntryEnds, styleEntryEnds}
 
@@ -17,31 +16,31 @@ unfoldable pub roomEnough : List ℕ → Bool
 roomEnough w = leb Layout.SHEET-WORDS (length w)
 
 -- "counts past the room or the sizes": 256 rules,
-abbrev pub rulesFit : List ℕ → Bool
+unfoldable pub rulesFit : List ℕ → Bool
 rulesFit w = leb (Layout.rulesIn w) 256
 
 -- 8 steps each,
-abbrev pub stepsFit : List ℕ → Bool
+unfoldable pub stepsFit : List ℕ → Bool
 stepsFit w = leb (Layout.stepsIn w) 2048
 
 -- 8,192 ids,
-abbrev pub idsFit : List ℕ → Bool
+unfoldable pub idsFit : List ℕ → Bool
 idsFit w = leb (Layout.idsIn w) 8192
 
 -- the next source index at most 65,536,
-abbrev pub nextFits : List ℕ → Bool
+unfoldable pub nextFits : List ℕ → Bool
 nextFits w = leb (Layout.nextIn w) 65536
 
 -- 64 direct styles,
-abbrev pub stylesFit : List ℕ → Bool
+unfoldable pub stylesFit : List ℕ → Bool
 stylesFit w = leb (Layout.stylesIn w) 64
 
 -- of 32 entries each,
-abbrev pub styleEntriesFit : List ℕ → Bool
+unfoldable pub styleEntriesFit : List ℕ → Bool
 styleEntriesFit w = leb (Layout.styleEntriesIn w) 2048
 
 -- and 4,096 entries in the whole sheet
-abbrev pub entriesFit : List ℕ → Bool
+unfoldable pub entriesFit : List ℕ → Bool
 entriesFit w = leb (Layout.entriesIn w + Layout.styleEntriesIn w) 4096
 
 unfoldable pub ruleCountsFit : List ℕ → Bool
@@ -51,11 +50,11 @@ unfoldable pub styleCountsFit : List ℕ → Bool
 styleCountsFit w = stylesFit w && (styleEntriesFit w && entriesFit w)
 
 -- "lists not end to end": list k ends at or after its start;
-abbrev pub endToEnd : (ℕ → ℕ) → ℕ → Bool
+unfoldable pub endToEnd : (ℕ → ℕ) → ℕ → Bool
 endToEnd ends k = leb (startOf ends k) (ends k)
 
 -- and it has at most `size` elements
-abbrev pub notLonger : (ℕ → ℕ) → ℕ → ℕ → Bool
+unfoldable pub notLonger : (ℕ → ℕ) → ℕ → ℕ → Bool
 notLonger ends size k = leb (ends k - startOf ends k) size
 
 unfoldable pub listFits : (ℕ → ℕ) → ℕ → ℕ → Bool
@@ -98,28 +97,48 @@ styleFine w d =
     && (listFits (styleEntryEnds w) 32 d
     && propertiesAscend w Layout.STYLE-ENTRY (styleEntryEnds w) d))
 
--- a flag is 0 or 1
-unfoldable pub flagsFit : List ℕ → ℕ → Bool
-flagsFit w s = leb (getD w (Layout.stepPlace s) 0) 1 && leb (getD w (Layout.stepPlace s + 2) 0) 1
+-- of step s: a flag is 0 or 1;
+unfoldable pub typeFlagFits : List ℕ → ℕ → Bool
+typeFlagFits w s = leb (getD w (Layout.stepPlace s) 0) 1
 
--- a combinator code over 1
+unfoldable pub partFlagFits : List ℕ → ℕ → Bool
+partFlagFits w s = leb (getD w (Layout.stepPlace s + 2) 0) 1
+
+-- at most 8 classes
+unfoldable pub classesFit : List ℕ → ℕ → Bool
+classesFit w s = leb (getD w (Layout.stepPlace s + 4) 0) 8
+
+-- and 8 pseudos;
+unfoldable pub pseudosFit : List ℕ → ℕ → Bool
+pseudosFit w s = leb (getD w (Layout.stepPlace s + 5) 0) 8
+
+-- both ascending;
+unfoldable pub classesAscend : List ℕ → ℕ → Bool
+classesAscend w s = ascends (rowAt 8 w (Layout.stepPlace s) .classes)
+
+unfoldable pub pseudosAscend : List ℕ → ℕ → Bool
+pseudosAscend w s = ascends (rowAt 8 w (Layout.stepPlace s) .pseudos)
+
+-- a combinator code at most 1
 unfoldable pub combinatorFits : List ℕ → ℕ → Bool
 combinatorFits w s = leb (endsIn w Layout.STEP-COMBINATOR Layout.STEP-WORDS s) 1
 
--- flags; at most 8 classes and 8 pseudos; both ascending; the combinator
 unfoldable pub stepFine : List ℕ → ℕ → Bool
 stepFine w s =
-    flagsFit w s
-    && (rowFits 8 w (Layout.stepPlace s)
-    && (tagsAscend (rowAt 8 w (Layout.stepPlace s))
-    && combinatorFits w s))
+    typeFlagFits w s
+    && (partFlagFits w s
+    && (classesFit w s
+    && (pseudosFit w s
+    && (classesAscend w s
+    && (pseudosAscend w s
+    && combinatorFits w s)))))
 
 -- of the n entries of a pool: property words at most 65,535,
-abbrev pub propertiesFit : List ℕ → ℕ → ℕ → Bool
+unfoldable pub propertiesFit : List ℕ → ℕ → ℕ → Bool
 propertiesFit w base n = atMost 65535 (wordsFrom w base n)
 
 -- kinds at most 3
-abbrev pub kindsFit : List ℕ → ℕ → ℕ → ℕ → Bool
+unfoldable pub kindsFit : List ℕ → ℕ → ℕ → ℕ → Bool
 kindsFit w base room n = atMost 3 (wordsFrom w (base + room) n)
 
 unfoldable pub poolFits : List ℕ → ℕ → ℕ → ℕ → Bool

@@ -1,4 +1,5 @@
 // Where each thing stands in a sheet's words. New things go to the end.
+use lent::lists::Column;
 
 // The counts.
 pub const RULES: usize = 0;
@@ -55,3 +56,49 @@ pub const STYLE_ENTRY: usize = 60872;
 pub const STYLE_ENTRY_ROOM: usize = 2048;
 
 pub const SHEET_WORDS: usize = 67016;
+
+// The columns of rows.
+pub const RULE_ORIGINS: Column = Column {
+    base: RULE_ORIGIN,
+    stride: RULE_WORDS,
+};
+
+pub const RULE_SOURCES: Column = Column {
+    base: RULE_SOURCE,
+    stride: RULE_WORDS,
+};
+
+pub const RULE_ORDERS: Column = Column {
+    base: RULE_ORDER,
+    stride: RULE_WORDS,
+};
+
+pub const RULE_STEP_ENDS: Column = Column {
+    base: RULE_STEP_END,
+    stride: RULE_WORDS,
+};
+
+pub const RULE_ENTRY_ENDS: Column = Column {
+    base: RULE_ENTRY_END,
+    stride: RULE_WORDS,
+};
+
+pub const STEP_COMBINATORS: Column = Column {
+    base: STEP_COMBINATOR,
+    stride: STEP_WORDS,
+};
+
+pub const STYLE_ORIGINS: Column = Column {
+    base: STYLE_ORIGIN,
+    stride: STYLE_WORDS,
+};
+
+pub const STYLE_SOURCES: Column = Column {
+    base: STYLE_SOURCE,
+    stride: STYLE_WORDS,
+};
+
+pub const STYLE_ENTRY_ENDS: Column = Column {
+    base: STYLE_ENTRY_END,
+    stride: STYLE_WORDS,
+};

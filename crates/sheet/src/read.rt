@@ -11,9 +11,9 @@ use crate::StepVerdict;
 use crate::StyleAnswer;
 use crate::layout;
 use crate::shape::is_sheet;
+use crate::shape::list_length;
 use crate::shape::step_place;
 use lent::Refusal;
-use lent::lists::Column;
 use lent::lists::cell;
 use lent::lists::start_of;
 use lent::words::wide;
@@ -22,21 +22,20 @@ use selector::Specificity;
 use selector::Weighing;
 use typed::SelectorStep;
 ghost use mathlib.Core.Path.{_≡_};
-ghost use mathlib.Core.Bool.{true, cond};
+ghost use mathlib.Core.Bool.{true};
 ghost use mathlib.Core.Option.{some};
 ghost use mathlib.Core.List.{[], _∷_};
-ghost use Prim.Native.Nat.{ℕ, suc, _+_, _-_, _≤_, _<_};
-ghost use lib.ListN.{length, getD, getElem?};
+ghost use Prim.Native.Nat.{suc, _+_, _≤_, _<_};
+ghost use lib.ListN.{getD, getElem?};
 ghost use Rattle.theory.specs.Weight.{weightOf};
 ghost use Rattle.lent.specs.Refusals.{answered};
-ghost use Rattle.lent.specs.Pool.{endsIn, startOf};
 ghost use Rattle.selector.specs.Rows.{rowAt};
 ghost use Rattle.selector.specs.Weighing.{Counted, weighingTold, weightTold};
 ghost use Rattle.typed.specs.Typed.{asking};
 ghost use Rattle.typed.specs.declared.TypeChoice.{TypeChoice};
 ghost use Rattle.typed.specs.declared.PartChoice.{PartChoice};
-ghost use Rattle.sheet.specs.Layout.{rulesIn, stepsIn, stylesIn, stepPlace, ENTRY, ENTRY-ROOM, STYLE-ENTRY, STYLE-ENTRY-ROOM};
-ghost use Rattle.sheet.specs.Sheets.{partAt, ruleAt, styleAt, entryAt, countsFor, ruleStepEnds, ruleEntryEnds, styleEntryEnds};
+ghost use Rattle.sheet.specs.Layout.{rulesIn, stepsIn, stylesIn, stepPlace};
+ghost use Rattle.sheet.specs.Sheets.{partAt, ruleAt, styleAt, entryAt, countsFor};
 ghost use Rattle.sheet.specs.Shape.{sheetShape};
 ghost use Rattle.sheet.specs.Reading.{countingTold, emptinessTold, ruleTold, styleTold, entryTold, combinatorTold, sheetVerdict, ruleVerdict, weightVerdict, emptinessOf, ruleNumbers, styleNumbers, entryNumbers, combinatorNumbers, styleThere, StepRead, Weighed};
 
@@ -87,18 +86,6 @@ pub fn is_empty(sheet: &[u32]) -> Emptiness
     Emptiness::Yes
 }
 
-// How many elements list k has.
-fn list_length(sheet: &[u32], ends: Column, k: u32) -> u32
-    ensures { λ r. ⌜ r ≡ endsIn (now (sheet .entry)) (ends .base) (ends .stride) k - startOf (endsIn (now (sheet .entry)) (ends .base) (ends .stride)) k ⌝ }
-{
-    let from = start_of(sheet, ends, k);
-    let to = cell(sheet, ends, k);
-    if to < from {
-        return 0;
-    }
-    to - from
-}
-
 // Rule by number: origin, source index, order, and how many steps and entries it has.
 pub fn rule(sheet: &[u32], number: u32) -> RuleAnswer
     ensures { λ r. ⌜ ruleTold r ≡ answered (ruleVerdict (now (sheet .entry)) number) (ruleNumbers (ruleAt (now (sheet .entry)) number)) ⌝ }
@@ -113,32 +100,12 @@ pub fn rule(sheet: &[u32], number: u32) -> RuleAnswer
 fn match_rule(sheet: &[u32], number: u32) -> MatchRule
     ensures { λ r. ⌜ ruleTold (RuleAnswer.Rule r) ≡ ruleNumbers (ruleAt (now (sheet .entry)) number) ⌝ }
 {
-    let origins = Column {
-        base: layout::RULE_ORIGIN,
-        stride: layout::RULE_WORDS,
-    };
-    let sources = Column {
-        base: layout::RULE_SOURCE,
-        stride: layout::RULE_WORDS,
-    };
-    let orders = Column {
-        base: layout::RULE_ORDER,
-        stride: layout::RULE_WORDS,
-    };
-    let steps = Column {
-        base: layout::RULE_STEP_END,
-        stride: layout::RULE_WORDS,
-    };
-    let entries = Column {
-        base: layout::RULE_ENTRY_END,
-        stride: layout::RULE_WORDS,
-    };
     MatchRule {
-        origin: cell(sheet, origins, number),
-        source_index: cell(sheet, sources, number),
-        order: cell(sheet, orders, number),
-        step_count: list_length(sheet, steps, number),
-        entry_count: list_length(sheet, entries, number),
+        origin: cell(sheet, layout::RULE_ORIGINS, number),
+        source_index: cell(sheet, layout::RULE_SOURCES, number),
+        order: cell(sheet, layout::RULE_ORDERS, number),
+        step_count: list_length(sheet, layout::RULE_STEP_ENDS, number),
+        entry_count: list_length(sheet, layout::RULE_ENTRY_ENDS, number),
     }
 }
 
@@ -153,10 +120,7 @@ fn no_step(verdict: StepVerdict) -> StepAnswer
 pub fn rule_step(sheet: &[u32], number: u32, i: u32) -> StepAnswer
     ensures { λ r. ⌜ StepRead (now (sheet .entry)) number i r ⌝ }
 {
-    let steps = Column {
-        base: layout::RULE_STEP_END,
-        stride: layout::RULE_WORDS,
-    };
+    let steps = layout::RULE_STEP_ENDS;
     let v = rule_verdict(sheet, number);
     if v != 0 {
         return no_step(StepVerdict::Refused(Refusal::of(v)));
@@ -175,10 +139,7 @@ pub fn rule_step(sheet: &[u32], number: u32, i: u32) -> StepAnswer
 pub fn rule_combinator(sheet: &[u32], number: u32, i: u32) -> CombinatorAnswer
     ensures { λ r. ⌜ combinatorTold r ≡ answered (ruleVerdict (now (sheet .entry)) number) (combinatorNumbers (getElem? (ruleAt (now (sheet .entry)) number .selector) (suc i))) ⌝ }
 {
-    let steps = Column {
-        base: layout::RULE_STEP_END,
-        stride: layout::RULE_WORDS,
-    };
+    let steps = layout::RULE_STEP_ENDS;
     let v = rule_verdict(sheet, number);
     if v != 0 {
         return CombinatorAnswer::Refused(Refusal::of(v));
@@ -197,11 +158,7 @@ pub fn rule_combinator(sheet: &[u32], number: u32, i: u32) -> CombinatorAnswer
 fn combinator_before(sheet: &[u32], s: u32) -> CombinatorAnswer
     ensures { λ r. ⌜ combinatorTold r ≡ combinatorNumbers (some (partAt (now (sheet .entry)) s)) ⌝ }
 {
-    let combinators = Column {
-        base: layout::STEP_COMBINATOR,
-        stride: layout::STEP_WORDS,
-    };
-    if cell(sheet, combinators, s) == 0 {
+    if cell(sheet, layout::STEP_COMBINATORS, s) == 0 {
         return CombinatorAnswer::Child;
     }
     CombinatorAnswer::Descendant
@@ -224,10 +181,7 @@ fn entry_at(sheet: &[u32], base: usize, room: usize, e: u32) -> EntryAnswer
 pub fn rule_entry(sheet: &[u32], number: u32, i: u32) -> EntryAnswer
     ensures { λ r. ⌜ entryTold r ≡ answered (ruleVerdict (now (sheet .entry)) number) (entryNumbers (getElem? (ruleAt (now (sheet .entry)) number .entries) i)) ⌝ }
 {
-    let entries = Column {
-        base: layout::RULE_ENTRY_END,
-        stride: layout::RULE_WORDS,
-    };
+    let entries = layout::RULE_ENTRY_ENDS;
     let v = rule_verdict(sheet, number);
     if v != 0 {
         return EntryAnswer::Refused(Refusal::of(v));
@@ -259,22 +213,10 @@ pub fn style(sheet: &[u32], number: u32) -> StyleAnswer
 fn direct_style(sheet: &[u32], number: u32) -> DirectStyle
     ensures { λ r. ⌜ styleTold (StyleAnswer.Style r) ≡ styleNumbers (styleAt (now (sheet .entry)) number) ⌝ }
 {
-    let origins = Column {
-        base: layout::STYLE_ORIGIN,
-        stride: layout::STYLE_WORDS,
-    };
-    let sources = Column {
-        base: layout::STYLE_SOURCE,
-        stride: layout::STYLE_WORDS,
-    };
-    let entries = Column {
-        base: layout::STYLE_ENTRY_END,
-        stride: layout::STYLE_WORDS,
-    };
     DirectStyle {
-        origin: cell(sheet, origins, number),
-        source_index: cell(sheet, sources, number),
-        entry_count: list_length(sheet, entries, number),
+        origin: cell(sheet, layout::STYLE_ORIGINS, number),
+        source_index: cell(sheet, layout::STYLE_SOURCES, number),
+        entry_count: list_length(sheet, layout::STYLE_ENTRY_ENDS, number),
     }
 }
 
@@ -282,10 +224,7 @@ fn direct_style(sheet: &[u32], number: u32) -> DirectStyle
 pub fn style_entry(sheet: &[u32], number: u32, i: u32) -> EntryAnswer
     ensures { λ r. ⌜ entryTold r ≡ styleThere (now (sheet .entry)) number (entryNumbers (getElem? (styleAt (now (sheet .entry)) number .entries) i)) ⌝ }
 {
-    let entries = Column {
-        base: layout::STYLE_ENTRY_END,
-        stride: layout::STYLE_WORDS,
-    };
+    let entries = layout::STYLE_ENTRY_ENDS;
     if !is_sheet(sheet) {
         return EntryAnswer::Refused(Refusal::BrokenShape);
     }
@@ -322,10 +261,7 @@ fn sum(sheet: &[u32], number: u32) -> Specificity
     requires { ⌜ (sheetShape (now sheet) ≡ true) × (number < rulesIn (now sheet)) ⌝ }
     ensures { λ r. ⌜ Weighed (countsFor (ruleAt (now (sheet .entry)) number .selector)) r ⌝ }
 {
-    let steps = Column {
-        base: layout::RULE_STEP_END,
-        stride: layout::RULE_WORDS,
-    };
+    let steps = layout::RULE_STEP_ENDS;
     let from = start_of(sheet, steps, number);
     let to = cell(sheet, steps, number);
     let mut pseudos: u32 = 0;

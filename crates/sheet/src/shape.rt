@@ -11,50 +11,95 @@ use lent::sets::is_ascending;
 use lent::words::wide;
 use lent::words::word;
 use selector::held::ids;
-use selector::held::row_fits;
 ghost use mathlib.Core.Path.{_≡_};
 ghost use mathlib.Core.Bool.{true};
-ghost use Prim.Native.Nat.{_≤_, _<_};
+ghost use Prim.Native.Nat.{_-_, _≤_, _<_};
 ghost use Rattle.theory.specs.Lists.{sumBelow};
 ghost use Rattle.lent.specs.All.{allBelow};
-ghost use Rattle.lent.specs.Pool.{endsIn};
-ghost use Rattle.selector.specs.Rows.{rowAt};
-ghost use Rattle.selector.specs.Checks.{tagsAscend};
+ghost use Rattle.lent.specs.Pool.{endsIn, startOf};
 ghost use Rattle.sheet.specs.Layout.{stepPlace};
-ghost use Rattle.sheet.specs.Shape.{ruleCountsFit, styleCountsFit, countsFit, listFits, originFits, sourceFits, propertiesAscend, firstUntied, ruleListsFit, ruleFine, styleFine, flagsFit, combinatorFits, stepFine, poolFits, idsAt, endsAt, idsMeet, endsMeet, rowsFine, poolsFit, sheetShape};
+ghost use Rattle.sheet.specs.Shape.{roomEnough, rulesFit, stepsFit, idsFit, nextFits, ruleCountsFit, stylesFit, styleEntriesFit, entriesFit, styleCountsFit, countsFit, endToEnd, notLonger, listFits, originFits, sourceFits, propertiesAscend, firstUntied, ruleListsFit, ruleFine, styleFine, typeFlagFits, partFlagFits, classesFit, pseudosFit, classesAscend, pseudosAscend, combinatorFits, stepFine, propertiesFit, kindsFit, poolFits, idsAt, endsAt, idsMeet, endsMeet, rowsFine, poolsFit, sheetShape};
+
+fn room_enough(sheet: &[u32]) -> bool
+    ensures { λ r. ⌜ r ≡ roomEnough (now (sheet .entry)) ⌝ }
+{
+    layout::SHEET_WORDS <= sheet.len()
+}
+
+fn rules_fit(sheet: &[u32]) -> bool
+    ensures { λ r. ⌜ r ≡ rulesFit (now (sheet .entry)) ⌝ }
+{
+    word(sheet, layout::RULES) <= 256
+}
+
+fn steps_fit(sheet: &[u32]) -> bool
+    ensures { λ r. ⌜ r ≡ stepsFit (now (sheet .entry)) ⌝ }
+{
+    word(sheet, layout::STEPS) <= 2048
+}
+
+fn ids_fit(sheet: &[u32]) -> bool
+    ensures { λ r. ⌜ r ≡ idsFit (now (sheet .entry)) ⌝ }
+{
+    word(sheet, layout::IDS) <= 8192
+}
+
+fn next_fits(sheet: &[u32]) -> bool
+    ensures { λ r. ⌜ r ≡ nextFits (now (sheet .entry)) ⌝ }
+{
+    word(sheet, layout::NEXT_SOURCE) <= 65536
+}
 
 fn rule_counts_fit(sheet: &[u32]) -> bool
     ensures { λ r. ⌜ r ≡ ruleCountsFit (now (sheet .entry)) ⌝ }
 {
-    if 256 < word(sheet, layout::RULES) {
+    if !rules_fit(sheet) {
         return false;
     }
-    if 2048 < word(sheet, layout::STEPS) {
+    if !steps_fit(sheet) {
         return false;
     }
-    if 8192 < word(sheet, layout::IDS) {
+    if !ids_fit(sheet) {
         return false;
     }
-    word(sheet, layout::NEXT_SOURCE) <= 65536
+    next_fits(sheet)
+}
+
+fn styles_fit(sheet: &[u32]) -> bool
+    ensures { λ r. ⌜ r ≡ stylesFit (now (sheet .entry)) ⌝ }
+{
+    word(sheet, layout::STYLES) <= 64
+}
+
+fn style_entries_fit(sheet: &[u32]) -> bool
+    ensures { λ r. ⌜ r ≡ styleEntriesFit (now (sheet .entry)) ⌝ }
+{
+    word(sheet, layout::STYLE_ENTRIES) <= 2048
+}
+
+fn entries_fit(sheet: &[u32]) -> bool
+    ensures { λ r. ⌜ r ≡ entriesFit (now (sheet .entry)) ⌝ }
+{
+    let own = wide(word(sheet, layout::ENTRIES));
+    own + wide(word(sheet, layout::STYLE_ENTRIES)) <= 4096
 }
 
 fn style_counts_fit(sheet: &[u32]) -> bool
     ensures { λ r. ⌜ r ≡ styleCountsFit (now (sheet .entry)) ⌝ }
 {
-    if 64 < word(sheet, layout::STYLES) {
+    if !styles_fit(sheet) {
         return false;
     }
-    let entries = word(sheet, layout::STYLE_ENTRIES);
-    if 2048 < entries {
+    if !style_entries_fit(sheet) {
         return false;
     }
-    word(sheet, layout::ENTRIES) <= 4096 - entries
+    entries_fit(sheet)
 }
 
 fn counts_fit(sheet: &[u32]) -> bool
     ensures { λ r. ⌜ r ≡ countsFit (now (sheet .entry)) ⌝ }
 {
-    if sheet.len() < layout::SHEET_WORDS {
+    if !room_enough(sheet) {
         return false;
     }
     if !rule_counts_fit(sheet) {
@@ -64,15 +109,37 @@ fn counts_fit(sheet: &[u32]) -> bool
 }
 
 // List k of the column of ends.
-fn list_fits(sheet: &[u32], ends: Column, size: u32, k: u32) -> bool
-    ensures { λ r. ⌜ r ≡ listFits (endsIn (now (sheet .entry)) (ends .base) (ends .stride)) size k ⌝ }
+fn end_to_end(sheet: &[u32], ends: Column, k: u32) -> bool
+    ensures { λ r. ⌜ r ≡ endToEnd (endsIn (now (sheet .entry)) (ends .base) (ends .stride)) k ⌝ }
+{
+    start_of(sheet, ends, k) <= cell(sheet, ends, k)
+}
+
+// How many elements list k has.
+pub(crate) fn list_length(sheet: &[u32], ends: Column, k: u32) -> u32
+    ensures { λ r. ⌜ r ≡ endsIn (now (sheet .entry)) (ends .base) (ends .stride) k - startOf (endsIn (now (sheet .entry)) (ends .base) (ends .stride)) k ⌝ }
 {
     let from = start_of(sheet, ends, k);
     let to = cell(sheet, ends, k);
     if to < from {
+        return 0;
+    }
+    to - from
+}
+
+fn not_longer(sheet: &[u32], ends: Column, size: u32, k: u32) -> bool
+    ensures { λ r. ⌜ r ≡ notLonger (endsIn (now (sheet .entry)) (ends .base) (ends .stride)) size k ⌝ }
+{
+    list_length(sheet, ends, k) <= size
+}
+
+fn list_fits(sheet: &[u32], ends: Column, size: u32, k: u32) -> bool
+    ensures { λ r. ⌜ r ≡ listFits (endsIn (now (sheet .entry)) (ends .base) (ends .stride)) size k ⌝ }
+{
+    if !end_to_end(sheet, ends, k) {
         return false;
     }
-    to - from <= size
+    not_longer(sheet, ends, size, k)
 }
 
 fn origin_fits(sheet: &[u32], origins: Column, k: u32) -> bool
@@ -96,17 +163,10 @@ fn properties_ascend(sheet: &[u32], pool: usize, ends: Column, k: u32) -> bool
 fn first_untied(sheet: &[u32], r: u32) -> bool
     ensures { λ b. ⌜ b ≡ firstUntied (now (sheet .entry)) r ⌝ }
 {
-    let ends = Column {
-        base: layout::RULE_STEP_END,
-        stride: layout::RULE_WORDS,
-    };
-    let combinators = Column {
-        base: layout::STEP_COMBINATOR,
-        stride: layout::STEP_WORDS,
-    };
-    let first = start_of(sheet, ends, r);
-    if first < cell(sheet, ends, r) {
-        return cell(sheet, combinators, first) == 0;
+    let steps = layout::RULE_STEP_ENDS;
+    let first = start_of(sheet, steps, r);
+    if first < cell(sheet, steps, r) {
+        return cell(sheet, layout::STEP_COMBINATORS, first) == 0;
     }
     true
 }
@@ -114,15 +174,8 @@ fn first_untied(sheet: &[u32], r: u32) -> bool
 fn rule_lists_fit(sheet: &[u32], r: u32) -> bool
     ensures { λ b. ⌜ b ≡ ruleListsFit (now (sheet .entry)) r ⌝ }
 {
-    let steps = Column {
-        base: layout::RULE_STEP_END,
-        stride: layout::RULE_WORDS,
-    };
-    let entries = Column {
-        base: layout::RULE_ENTRY_END,
-        stride: layout::RULE_WORDS,
-    };
-    if !list_fits(sheet, steps, 8, r) {
+    let entries = layout::RULE_ENTRY_ENDS;
+    if !list_fits(sheet, layout::RULE_STEP_ENDS, 8, r) {
         return false;
     }
     if !list_fits(sheet, entries, 32, r) {
@@ -137,18 +190,10 @@ fn rule_lists_fit(sheet: &[u32], r: u32) -> bool
 fn rule_fine(sheet: &[u32], r: u32) -> bool
     ensures { λ b. ⌜ b ≡ ruleFine (now (sheet .entry)) r ⌝ }
 {
-    let origins = Column {
-        base: layout::RULE_ORIGIN,
-        stride: layout::RULE_WORDS,
-    };
-    let sources = Column {
-        base: layout::RULE_SOURCE,
-        stride: layout::RULE_WORDS,
-    };
-    if !origin_fits(sheet, origins, r) {
+    if !origin_fits(sheet, layout::RULE_ORIGINS, r) {
         return false;
     }
-    if !source_fits(sheet, sources, r) {
+    if !source_fits(sheet, layout::RULE_SOURCES, r) {
         return false;
     }
     rule_lists_fit(sheet, r)
@@ -157,22 +202,11 @@ fn rule_fine(sheet: &[u32], r: u32) -> bool
 fn style_fine(sheet: &[u32], d: u32) -> bool
     ensures { λ b. ⌜ b ≡ styleFine (now (sheet .entry)) d ⌝ }
 {
-    let origins = Column {
-        base: layout::STYLE_ORIGIN,
-        stride: layout::STYLE_WORDS,
-    };
-    let sources = Column {
-        base: layout::STYLE_SOURCE,
-        stride: layout::STYLE_WORDS,
-    };
-    let entries = Column {
-        base: layout::STYLE_ENTRY_END,
-        stride: layout::STYLE_WORDS,
-    };
-    if !origin_fits(sheet, origins, d) {
+    let entries = layout::STYLE_ENTRY_ENDS;
+    if !origin_fits(sheet, layout::STYLE_ORIGINS, d) {
         return false;
     }
-    if !source_fits(sheet, sources, d) {
+    if !source_fits(sheet, layout::STYLE_SOURCES, d) {
         return false;
     }
     if !list_fits(sheet, entries, 32, d) {
@@ -188,48 +222,72 @@ pub fn step_place(s: u32) -> usize
     wide(layout::STEP) + wide(layout::STEP_WORDS) * wide(s)
 }
 
-fn flags_fit(sheet: &[u32], s: u32) -> bool
-    ensures { λ r. ⌜ r ≡ flagsFit (now (sheet .entry)) s ⌝ }
+fn type_flag_fits(sheet: &[u32], s: u32) -> bool
+    ensures { λ r. ⌜ r ≡ typeFlagFits (now (sheet .entry)) s ⌝ }
 {
-    let at = step_place(s);
-    if 1 < word(sheet, at) {
-        return false;
-    }
-    word(sheet, at + 2) <= 1
+    word(sheet, step_place(s)) <= 1
 }
 
-fn step_ascends(sheet: &[u32], s: u32) -> bool
+fn part_flag_fits(sheet: &[u32], s: u32) -> bool
+    ensures { λ r. ⌜ r ≡ partFlagFits (now (sheet .entry)) s ⌝ }
+{
+    word(sheet, step_place(s) + 2) <= 1
+}
+
+fn classes_fit(sheet: &[u32], s: u32) -> bool
+    ensures { λ r. ⌜ r ≡ classesFit (now (sheet .entry)) s ⌝ }
+{
+    word(sheet, step_place(s) + 4) <= 8
+}
+
+fn pseudos_fit(sheet: &[u32], s: u32) -> bool
+    ensures { λ r. ⌜ r ≡ pseudosFit (now (sheet .entry)) s ⌝ }
+{
+    word(sheet, step_place(s) + 5) <= 8
+}
+
+fn classes_ascend(sheet: &[u32], s: u32) -> bool
     requires { ⌜ s < 2048 ⌝ }
-    ensures { λ r. ⌜ r ≡ tagsAscend (rowAt 8 (now (sheet .entry)) (stepPlace s)) ⌝ }
+    ensures { λ r. ⌜ r ≡ classesAscend (now (sheet .entry)) s ⌝ }
 {
     let at = step_place(s);
-    if !is_ascending(ids(sheet, at + 6, at + 4)) {
-        return false;
-    }
+    is_ascending(ids(sheet, at + 6, at + 4))
+}
+
+fn pseudos_ascend(sheet: &[u32], s: u32) -> bool
+    requires { ⌜ s < 2048 ⌝ }
+    ensures { λ r. ⌜ r ≡ pseudosAscend (now (sheet .entry)) s ⌝ }
+{
+    let at = step_place(s);
     is_ascending(ids(sheet, at + 14, at + 5))
 }
 
 fn combinator_fits(sheet: &[u32], s: u32) -> bool
     ensures { λ r. ⌜ r ≡ combinatorFits (now (sheet .entry)) s ⌝ }
 {
-    let combinators = Column {
-        base: layout::STEP_COMBINATOR,
-        stride: layout::STEP_WORDS,
-    };
-    cell(sheet, combinators, s) <= 1
+    cell(sheet, layout::STEP_COMBINATORS, s) <= 1
 }
 
 fn step_fine(sheet: &[u32], s: u32) -> bool
     requires { ⌜ s < 2048 ⌝ }
     ensures { λ b. ⌜ b ≡ stepFine (now (sheet .entry)) s ⌝ }
 {
-    if !flags_fit(sheet, s) {
+    if !type_flag_fits(sheet, s) {
         return false;
     }
-    if !row_fits(sheet, step_place(s), 8) {
+    if !part_flag_fits(sheet, s) {
         return false;
     }
-    if !step_ascends(sheet, s) {
+    if !classes_fit(sheet, s) {
+        return false;
+    }
+    if !pseudos_fit(sheet, s) {
+        return false;
+    }
+    if !classes_ascend(sheet, s) {
+        return false;
+    }
+    if !pseudos_ascend(sheet, s) {
         return false;
     }
     combinator_fits(sheet, s)
@@ -289,15 +347,29 @@ fn rows_fine(sheet: &[u32]) -> bool
 }
 
 // The n entries of a pool.
+fn properties_fit(sheet: &[u32], base: usize, n: u32) -> bool
+    requires { ⌜ base ≤ 100000 ⌝ }
+    ensures { λ r. ⌜ r ≡ propertiesFit (now (sheet .entry)) base n ⌝ }
+{
+    at_most(part(sheet, base, base + wide(n)), 65535)
+}
+
+fn kinds_fit(sheet: &[u32], base: usize, room: usize, n: u32) -> bool
+    requires { ⌜ (base ≤ 100000) × (room ≤ 4096) ⌝ }
+    ensures { λ r. ⌜ r ≡ kindsFit (now (sheet .entry)) base room n ⌝ }
+{
+    let kinds = base + room;
+    at_most(part(sheet, kinds, kinds + wide(n)), 3)
+}
+
 fn pool_fits(sheet: &[u32], base: usize, room: usize, n: u32) -> bool
     requires { ⌜ (base ≤ 100000) × (room ≤ 4096) ⌝ }
     ensures { λ r. ⌜ r ≡ poolFits (now (sheet .entry)) base room n ⌝ }
 {
-    let kinds = base + room;
-    if !at_most(part(sheet, base, base + wide(n)), 65535) {
+    if !properties_fit(sheet, base, n) {
         return false;
     }
-    at_most(part(sheet, kinds, kinds + wide(n)), 3)
+    kinds_fit(sheet, base, room, n)
 }
 
 fn pools_fit(sheet: &[u32]) -> bool
@@ -345,28 +417,26 @@ fn ends_meet(sheet: &[u32]) -> bool
     requires { ⌜ countsFit (now sheet) ≡ true ⌝ }
     ensures { λ r. ⌜ r ≡ endsMeet (now (sheet .entry)) ⌝ }
 {
-    let steps = Column {
-        base: layout::RULE_STEP_END,
-        stride: layout::RULE_WORDS,
-    };
-    let entries = Column {
-        base: layout::RULE_ENTRY_END,
-        stride: layout::RULE_WORDS,
-    };
-    let style_entries = Column {
-        base: layout::STYLE_ENTRY_END,
-        stride: layout::STYLE_WORDS,
-    };
     let rules = word(sheet, layout::RULES);
-    if !ends_at(sheet, steps, rules, word(sheet, layout::STEPS)) {
-        return false;
-    }
-    if !ends_at(sheet, entries, rules, word(sheet, layout::ENTRIES)) {
+    if !ends_at(
+        sheet,
+        layout::RULE_STEP_ENDS,
+        rules,
+        word(sheet, layout::STEPS),
+    ) {
         return false;
     }
     if !ends_at(
         sheet,
-        style_entries,
+        layout::RULE_ENTRY_ENDS,
+        rules,
+        word(sheet, layout::ENTRIES),
+    ) {
+        return false;
+    }
+    if !ends_at(
+        sheet,
+        layout::STYLE_ENTRY_ENDS,
         word(sheet, layout::STYLES),
         word(sheet, layout::STYLE_ENTRIES),
     ) {

@@ -1,19 +1,22 @@
 use borrow.Author.Needs.{needs}
-use Rattle.sheet.proofs.ShapeLaws.{list-falls, list-rises}
+use Rattle.sheet.specs.Shape.{listFits}
+use Rattle.sheet.proofs.ShapeLaws.{tests}
 use Rattle.sheet.proofs.shape.list_fits.Statement.{statement}
 use Rattle.sheet.proofs.shape.list_fits.Tie as tie
 
-start-of-requires : tie.Need-start-of-requires
-start-of-requires c κs = search needs
-
-cell-requires : tie.Need-cell-requires
-cell-requires c κs = search needs
+end-to-end-requires : tie.Need-end-to-end-requires
+end-to-end-requires c κs = search needs
 
 returns : tie.Need-returns
-returns c = search (list-falls, needs)
+unfolding listFits
+returns c = search (tests, needs)
+
+not-longer-requires : tie.Need-not-longer-requires
+not-longer-requires c κs = search needs
 
 returns-2 : tie.Need-returns-2
-returns-2 c = search (list-rises, needs)
+unfolding listFits
+returns-2 c = search (tests, needs)
 
 pub list-fits-spec : {M : Type 1} → statement M
-list-fits-spec = tie.close (tie.spec start-of-requires cell-requires returns returns-2)
+list-fits-spec = tie.close (tie.spec end-to-end-requires returns not-longer-requires returns-2)
