@@ -1,8 +1,8 @@
 -- The words after direct styles and rules have been added to those of a sheet. Assumes nothing.
 use mathlib.Core.Option.{Option, none, some}
 use mathlib.Core.List.{List, [], _∷_, _++_, map, flatMap}
-use Prim.Native.Nat.{ℕ, zero, suc, _+_, _-_, _*_}
-use lib.ListN.{length, getD, replicate, take}
+use Prim.Native.Nat.{ℕ, _+_, _-_, _*_}
+use lib.ListN.{length, replicate, take}
 use lib.Seq.{sets}
 use Rattle.theory.specs.Paths.{Comb, child, descendant, Part, Selector}
 use Rattle.theory.specs.Weight.{total}

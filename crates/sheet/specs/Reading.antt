@@ -2,19 +2,17 @@
 use mathlib.Core.Path.{_≡_}
 use mathlib.Core.Bool.{Bool, true, false, cond, not, _&&_}
 use mathlib.Core.Option.{Option, none, some}
-use mathlib.Core.List.{List, [], _∷_, map}
-use Prim.Native.Nat.{ℕ, zero, suc, _+_, _≤_}
-use lib.ListN.{length, getD, getElem?, drop}
+use mathlib.Core.List.{List, [], _∷_}
+use Prim.Native.Nat.{ℕ, _+_, _≤_}
+use lib.ListN.{length, drop}
 use lib.Dec.{ltb, eqb}
-use Rattle.theory.specs.Paths.{Comb, child, descendant, Part, Selector}
-use Rattle.theory.specs.Weight.{Counts, total, weightOf}
+use Rattle.theory.specs.Paths.{Comb, child, descendant, Part}
+use Rattle.theory.specs.Weight.{Counts, total}
 use Rattle.lent.specs.Refusals.{told, check, firstOf, answered}
 use Rattle.lent.specs.Pool.{startOf}
 use Rattle.selector.specs.Tags.{Tags}
-use Rattle.selector.specs.Weighing.{weightTold}
 use Rattle.selector.specs.declared.Specificity.{Specificity}
 use Rattle.typed.specs.Typed.{asking, stepFrom}
-use Rattle.typed.specs.declared.SelectorStep.{SelectorStep}
 use Rattle.typed.specs.declared.TypeChoice.{TypeChoice}
 use Rattle.typed.specs.declared.PartChoice.{PartChoice}
 use Rattle.style.specs.Entries.{Entry}
@@ -35,7 +33,7 @@ use Rattle.sheet.specs.declared.StepVerdict.{StepVerdict}
 use Rattle.sheet.specs.declared.StepVerdict.the-variants as step
 use Rattle.sheet.specs.declared.StepAnswer.{StepAnswer}
 use Rattle.sheet.specs.Layout
-use Rattle.sheet.specs.Sheets.{Style, Rule, ruleAt, styleAt, sheetOf, countsFor, ruleStepEnds}
+use Rattle.sheet.specs.Sheets.{Style, Rule, ruleAt, sheetOf, ruleStepEnds}
 use Rattle.sheet.specs.Shape.{sheetShape}
 
 -- ---- each answer's numbers

@@ -1,7 +1,7 @@
 -- A sheet, and the sheet that words hold: 01, "Weight, winners, changes". Assumes nothing.
-use mathlib.Core.List.{List, [], _∷_, _++_, map}
+use mathlib.Core.List.{List, _++_, map}
 use Prim.Native.Nat.{ℕ, _+_, _-_, _*_}
-use lib.ListN.{getD, length}
+use lib.ListN.{getD}
 use Rattle.theory.specs.Lists.{spread}
 use Rattle.theory.specs.Paths.{Part, Selector}
 use Rattle.theory.specs.Weight.{Counts, Weight, weightOf, noWeight}

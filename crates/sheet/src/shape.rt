@@ -109,7 +109,7 @@ fn counts_fit(sheet: &[u32]) -> bool
 }
 
 // List k of the column of ends.
-fn end_to_end(sheet: &[u32], ends: Column, k: u32) -> bool
+pub fn end_to_end(sheet: &[u32], ends: Column, k: u32) -> bool
     ensures { λ r. ⌜ r ≡ endToEnd (endsIn (now (sheet .entry)) (ends .base) (ends .stride)) k ⌝ }
 {
     start_of(sheet, ends, k) <= cell(sheet, ends, k)
@@ -407,7 +407,7 @@ fn sum_ids(sheet: &[u32], n: u32) -> usize
 }
 
 // Where the last of n lists ends.
-fn ends_at(sheet: &[u32], ends: Column, n: u32, count: u32) -> bool
+pub fn ends_at(sheet: &[u32], ends: Column, n: u32, count: u32) -> bool
     ensures { λ r. ⌜ r ≡ endsAt (endsIn (now (sheet .entry)) (ends .base) (ends .stride)) n count ⌝ }
 {
     start_of(sheet, ends, n) == count

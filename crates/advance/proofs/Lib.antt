@@ -1,0 +1,4 @@
+pub mod Flags
+pub mod Cursors
+pub mod Range
+pub mod Advanced

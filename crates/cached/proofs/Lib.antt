@@ -1,0 +1,4 @@
+pub mod Leading
+pub mod Alike
+pub mod Hitting
+pub mod Following

@@ -1,0 +1,160 @@
+// For callers that hold the table to its shape already.
+use lent::lists::Column;
+use lent::lists::cell;
+use lent::lists::part;
+use lent::sets::compare;
+use lent::words::copy_into;
+use lent::words::wide;
+use lent::words::word;
+use table::layout;
+ghost use mathlib.Core.Path.{_≡_};
+ghost use mathlib.Core.Bool.{true, _&&_};
+ghost use Prim.Native.Nat.{_≤_, _<_};
+ghost use lib.ListN.{length, getD};
+ghost use Rattle.selector.specs.Rows.{rowAt, tagOf, wordsFrom};
+ghost use Rattle.selector.specs.Checks.{rowFits};
+ghost use Rattle.table.specs.Tables.{transitionsIn, subjectPlace};
+ghost use Rattle.table.specs.Shape.{same};
+ghost use Rattle.table.specs.Entering.{sameTag, sameSubject, leads, isHit, cachedFrom, cached};
+ghost use Rattle.cached.specs.Fitting.{subjectsFit};
+
+// ---- equal subjects
+
+// Two tags, each with the flag that says whether it is set.
+fn same_tag(flag: u32, tag: u32, other_flag: u32, other_tag: u32) -> bool
+    ensures { λ r. ⌜ r ≡ sameTag (tagOf flag tag) (tagOf «other_flag» «other_tag») ⌝ }
+{
+    if flag == 0 {
+        return other_flag == 0;
+    }
+    if other_flag == 0 {
+        return false;
+    }
+    tag == other_tag
+}
+
+// The type and the part of the row that begins at word `at`, and those of the other row.
+fn same_tags(words: &[u32], at: usize, row: &[u32]) -> bool
+    requires { ⌜ at < 1000000000000 ⌝ }
+    ensures { λ r. ⌜ r ≡ (sameTag (rowAt 16 (now (words .entry)) at .type) (rowAt 16 (now (row .entry)) 0 .type) && sameTag (rowAt 16 (now (words .entry)) at .part) (rowAt 16 (now (row .entry)) 0 .part)) ⌝ }
+{
+    if !same_tag(
+        word(words, at),
+        word(words, at + 1),
+        word(row, 0),
+        word(row, 1),
+    ) {
+        return false;
+    }
+    same_tag(
+        word(words, at + 2),
+        word(words, at + 3),
+        word(row, 2),
+        word(row, 3),
+    )
+}
+
+// Both lists are copied, and the copies compared.
+fn same_ids(ids: &[u32], others: &[u32]) -> bool
+    requires { ⌜ (length (now ids) ≤ 16) × (length (now others) ≤ 16) ⌝ }
+    ensures { λ r. ⌜ r ≡ same (now (ids .entry)) (now (others .entry)) ⌝ }
+{
+    let mut a = [0u32; 16];
+    let mut b = [0u32; 16];
+    copy_into(&mut a, 0, ids);
+    copy_into(&mut b, 0, others);
+    compare(&a[..ids.len()], &b[..others.len()]) == 0
+}
+
+// The ids of a row: from word `at` on, as many as the word at `count` says.
+fn ids<'a>(words: &'a [u32], at: usize, count: usize) -> &'a [u32]
+    requires { ⌜ at < 1000000000000 ⌝ }
+    ensures { λ r. ⌜ now r ≡ wordsFrom (now (words .entry)) at (getD (now (words .entry)) count 0) ⌝ }
+{
+    part(words, at, at + wide(word(words, count)))
+}
+
+// Whether the subject whose row begins at word `at` is the one of the other row.
+fn same_subject(words: &[u32], at: usize, row: &[u32]) -> bool
+    requires { ⌜ at < 999999999000 ⌝ }
+    requires { ⌜ (rowFits 16 (now words) at ≡ true) × (rowFits 16 (now row) 0 ≡ true) ⌝ }
+    ensures { λ r. ⌜ r ≡ sameSubject (rowAt 16 (now (words .entry)) at) (rowAt 16 (now (row .entry)) 0) ⌝ }
+{
+    if !same_tags(words, at, row) {
+        return false;
+    }
+    if !same_ids(ids(words, at + 6, at + 4), ids(row, 6, 4)) {
+        return false;
+    }
+    same_ids(ids(words, at + 22, at + 5), ids(row, 22, 5))
+}
+
+// ---- along a chain
+
+// Whether the link leads to one of `count` transitions.
+pub fn leads(count: u32, link: u32) -> bool
+    ensures { λ r. ⌜ r ≡ leads count link ⌝ }
+{
+    if link == 0 {
+        return false;
+    }
+    link <= count
+}
+
+// Whether transition k is of this parent and subject.
+fn is_hit(transitions: &[u32], parent: u32, row: &[u32], k: u32) -> bool
+    requires { ⌜ (rowFits 16 (now transitions) (subjectPlace k) ≡ true) × (rowFits 16 (now row) 0 ≡ true) ⌝ }
+    ensures { λ r. ⌜ r ≡ isHit (now (transitions .entry)) parent (rowAt 16 (now (row .entry)) 0) k ⌝ }
+{
+    let parents = Column {
+        base: layout::PARENT,
+        stride: layout::TRANSITION_WORDS,
+    };
+    if cell(transitions, parents, k) != parent {
+        return false;
+    }
+    let at = wide(layout::SUBJECT) + wide(layout::TRANSITION_WORDS) * wide(k);
+    same_subject(transitions, at, row)
+}
+
+// The first link along the chain to a transition of this parent and subject; 0 for none.
+fn cached_from(transitions: &[u32], count: u32, parent: u32, row: &[u32], first: u32) -> u32
+    requires { ⌜ (subjectsFit (now transitions) count ≡ true) × (rowFits 16 (now row) 0 ≡ true) ⌝ }
+    ensures { λ r. ⌜ r ≡ cachedFrom (now (transitions .entry)) count parent (rowAt 16 (now (row .entry)) 0) first count ⌝ }
+{
+    let links = Column {
+        base: layout::NEXT_LINK,
+        stride: layout::TRANSITION_WORDS,
+    };
+    let mut link = first;
+    let mut left = count;
+    while left > 0 {
+        if !leads(count, link) {
+            return 0;
+        }
+        if is_hit(transitions, parent, row, link - 1) {
+            return link;
+        }
+        link = cell(transitions, links, link - 1);
+        left -= 1;
+    }
+    0
+}
+
+// The link to the cached transition of this parent and subject; 0 for none.
+pub fn cached(head: &[u32], states: &[u32], transitions: &[u32], parent: u32, row: &[u32]) -> u32
+    requires { ⌜ (subjectsFit (now transitions) (transitionsIn (now head)) ≡ true) × (rowFits 16 (now row) 0 ≡ true) ⌝ }
+    ensures { λ r. ⌜ r ≡ cached (now (head .entry)) (now (states .entry)) (now (transitions .entry)) parent (rowAt 16 (now (row .entry)) 0) ⌝ }
+{
+    let firsts = Column {
+        base: layout::FIRST_LINK,
+        stride: layout::STATE_WORDS,
+    };
+    cached_from(
+        transitions,
+        word(head, layout::TRANSITIONS),
+        parent,
+        row,
+        cell(states, firsts, parent),
+    )
+}

@@ -1,0 +1,162 @@
+-- A transition more, if there is room for it. Assumes nothing.
+use mathlib.Core.Path.{_≡_, refl, _∙_}
+use mathlib.Core.Bool.{Bool, true, false, cond}
+use mathlib.Core.List.{List, _∷_}
+use mathlib.Core.Logic.{inl, inr}
+use Prim.Native.Nat.{ℕ, _+_, _-_, _*_, _≤_, _<_}
+use native.Mathlib.Omega.{arith}
+use lib.ListN.{length, getD, set, length-set}
+use lib.Seq.{length-sets, getD-set-same, getD-set-other}
+use lib.Dec.{ltb}
+use borrow.Author.Tests.{leb-true}
+use Rattle.theory.proofs.Lists.{and-right}
+use Rattle.lent.specs.Pool.{addressOf, endsIn}
+use Rattle.selector.specs.Tags.{stepMatches}
+use Rattle.selector.specs.Rows.{rowAt}
+use Rattle.table.specs.Tables.{Table, selectorsOf, statesIn, transitionsIn, firstLink, parentAt, childAt, subjectOf}
+use Rattle.table.specs.Entering.{transitionFits, leads, lastFrom, withRow, linkedState, linkedLast, hooked, kept}
+use Rattle.table.proofs.Shaped.{SubjectShaped}
+use Rattle.covered.proofs.Known.{below, known-same}
+use Rattle.covered.proofs.Columns.{stays-end-to-end}
+use Rattle.covered.proofs.Rows.{row-before, row-new, SameRow, row-then, same-parent, same-child, same-subject, same-shaped, link-set, Fine, whole-parent, whole-child, whole-subject, whole-shaped}
+use Rattle.covered.proofs.Sound.{LeadsIn, Sound}
+use Rattle.covered.proofs.Keeps.{StatesStay, Kept, kept-none, states-stay, leads-stay, leads-cast}
+
+-- one transition more, and links set: no list of a state changes, and no earlier row but for its link
+record Hooked (t t′ : Table) (row : List ℕ) : Type 0 where
+  head : t′ .head ≡ set (t .head) 5 (transitionsIn (t .head) + 1)
+  cursors : t′ .cursors ≡ t .cursors
+  matched : t′ .matched ≡ t .matched
+  rows : length (t′ .states) ≡ length (t .states)
+  ends : (c : ℕ) → c < 2 → (k : ℕ) → endsIn (t′ .states) c 3 k ≡ endsIn (t .states) c 3 k
+  long : length (t′ .transitions) ≡ length (t .transitions)
+  before : (k : ℕ) → k < transitionsIn (t .head) → SameRow (t′ .transitions) k (t .transitions) k
+  new : SameRow (t′ .transitions) (transitionsIn (t .head)) row 0
+
+module _ (t : Table) (p child : ℕ) (row : List ℕ) (long : length row ≡ 38) (room : 41 * transitionsIn (t .head) + 41 ≤ length (t .transitions)) where
+  abbrev rows : List ℕ
+  rows = withRow (t .transitions) (transitionsIn (t .head)) p child row
+
+  rows-before : (k : ℕ) → k < transitionsIn (t .head) → SameRow rows k (t .transitions) k
+  rows-before k h = record { words = λ c g ne. row-before 41 (transitionsIn (t .head)) (t .transitions) (p ∷ child ∷ 0 ∷ row) c g k h }
+
+  rows-new : SameRow rows (transitionsIn (t .head)) (p ∷ child ∷ 0 ∷ row) 0
+  unfolding endsIn
+  rows-new = record {
+    words = λ c g ne. let z : c + 41 * 0 ≡ c = omega arith in
+        rw z (row-new 41 (transitionsIn (t .head)) (t .transitions) (p ∷ child ∷ 0 ∷ row) c (omega arith) (omega arith));
+  }
+
+  hooked-is : Hooked t (hooked t p child row) (p ∷ child ∷ 0 ∷ row)
+  unfolding hooked endsIn
+  hooked-is = by (leads n first)
+    where
+      n : ℕ
+      n = transitionsIn (t .head)
+
+      first : ℕ
+      first = firstLink (t .states) p
+
+      by : (b : Bool) → Hooked t (cond b
+          (record { head = set (t .head) 5 (n + 1); states = t .states; cursors = t .cursors; matched = t .matched; transitions = linkedLast rows (lastFrom (t .transitions) n first n) n })
+          (record { head = set (t .head) 5 (n + 1); states = linkedState (t .states) p n; cursors = t .cursors; matched = t .matched; transitions = rows }))
+          (p ∷ child ∷ 0 ∷ row)
+      by true = record {
+        head = refl;
+        cursors = refl;
+        matched = refl;
+        rows = refl;
+        ends = λ c h k. refl;
+        long = length-set rows (addressOf 2 41 (lastFrom (t .transitions) n first n - 1)) (n + 1) ∙ length-sets (t .transitions) (41 * n) (p ∷ child ∷ 0 ∷ row);
+        before = λ k h. row-then (link-set rows (lastFrom (t .transitions) n first n - 1) (n + 1) k) (rows-before k h);
+        new = row-then (link-set rows (lastFrom (t .transitions) n first n - 1) (n + 1) n) rows-new;
+      }
+      by false = record {
+        head = refl;
+        cursors = refl;
+        matched = refl;
+        rows = length-set (t .states) (addressOf 2 3 p) (n + 1);
+        ends = λ c h k. getD-set-other (t .states) (addressOf 2 3 p) (addressOf c 3 k) (n + 1) 0 (λ e. omega arith);
+        long = length-sets (t .transitions) (41 * n) (p ∷ child ∷ 0 ∷ row);
+        before = rows-before;
+        new = rows-new;
+      }
+
+module _ (w : List ℕ) {t t′ : Table} (p child : ℕ) (row : List ℕ) (s : Sound w t) (h : Hooked t t′ (p ∷ child ∷ 0 ∷ row))
+    (room : 41 * transitionsIn (t .head) + 41 ≤ length (t .transitions)) (f : Fine row) (l : LeadsIn w t p child (rowAt 16 row 0)) where
+  head-kept : (i : ℕ) → i < 5 → getD (t′ .head) i 0 ≡ getD (t .head) i 0
+  head-kept i g = rw (h .head) (getD-set-other (t .head) 5 i (transitionsIn (t .head) + 1) 0 (λ e. omega arith))
+
+  head-rows : transitionsIn (t′ .head) ≡ transitionsIn (t .head) + 1
+  head-rows = rw (h .head) (getD-set-same (t .head) 5 (transitionsIn (t .head) + 1) 0 (omega (arith, s .eight)))
+
+  hooked-stay : StatesStay t t′
+  hooked-stay = record {
+    rows = h .rows;
+    cursor-room = rw (h .cursors);
+    matched-room = rw (h .matched);
+    more = rw (head-kept 2 (omega arith)) (omega arith);
+    more-cursors = rw (head-kept 3 (omega arith)) (omega arith);
+    more-matched = rw (head-kept 4 (omega arith)) (omega arith);
+    cursors = record { same = λ k g. h .ends 0 (omega arith) k; numbers = rw (h .cursors) };
+    matched = record { same = λ k g. h .ends 1 (omega arith) k; numbers = rw (h .matched) };
+  }
+
+  moved : (k : ℕ) → k < transitionsIn (t′ .head) → LeadsIn w t′ (parentAt (t′ .transitions) k) (childAt (t′ .transitions) k) (subjectOf (t′ .transitions) k) × SubjectShaped (t′ .transitions) k
+  moved k g = elim (below k (transitionsIn (t .head)) (omega (arith, head-rows))) [
+    | inl m ↦
+        let r = h .before k m in
+        let a : 41 * (k + 1) ≤ length (t .transitions) = omega arith in
+        let b : 41 * (k + 1) ≤ length (t′ .transitions) = omega (arith, h .long) in
+        let u = s .subjects k m in
+        (leads-cast w t′ (same-parent r) (same-child r) (same-subject r b a u) (leads-stay w s hooked-stay (s .moves k m)), same-shaped r b a u)
+    | inr q ↦
+        let r = h .new in
+        let a : 41 * (0 + 1) ≤ length (p ∷ child ∷ 0 ∷ row) = omega (arith, f .long) in
+        let b : 41 * (transitionsIn (t .head) + 1) ≤ length (t′ .transitions) = omega (arith, h .long) in
+        let u = whole-shaped p child row f in
+        rw q (leads-cast w t′ (same-parent r ∙ whole-parent p child row) (same-child r ∙ whole-child p child row) (same-subject r b a u ∙ whole-subject p child row) (leads-stay w s hooked-stay l), same-shaped r b a u)
+  ]
+
+  hooked-kept : Kept w t t′
+  hooked-kept =
+      let e1 = head-kept 1 (omega arith) in
+      let e2 = head-kept 2 (omega arith) in
+      let e3 = head-kept 3 (omega arith) in
+      let e4 = head-kept 4 (omega arith) in
+      record {
+        stamp = head-kept 0 (omega arith);
+        ranking = e1;
+        stay = hooked-stay;
+        sound = record {
+          sheet = s .sheet;
+          eight = rw (h .head, length-set) (s .eight);
+          few = rw e2 (s .few);
+          ranking = rw e1 (s .ranking);
+          rows = rw (e2, h .rows) (s .rows);
+          cursors = rw (e2, e3) (stays-end-to-end (hooked-stay .cursors) (s .cursors) (rw (h .cursors)));
+          matched = rw (e2, e4) (stays-end-to-end (hooked-stay .matched) (s .matched) (rw (h .matched)));
+          transitions = rw (head-rows, h .long) (omega arith);
+          known = rw e2 (known-same stepMatches (selectorsOf w) (s .known) (states-stay w s hooked-stay));
+          moves = λ k g. moved k g .0;
+          subjects = λ k g. moved k g .1;
+        };
+      }
+
+fits-room : (n room : ℕ) → transitionFits n room ≡ true → 41 * n + 41 ≤ room
+unfolding transitionFits
+fits-room n room e = omega (arith, leb-true (41 * (n + 1)) room (and-right (ltb n 4294967295) _ e))
+
+-- with room or without; the states are as many
+pub row-kept : (w : List ℕ) {t : Table} (p child : ℕ) (row : List ℕ) → Sound w t → Fine row → LeadsIn w t p child (rowAt 16 row 0)
+    → Kept w t (kept t p child row) × (statesIn (kept t p child row .head) ≡ statesIn (t .head))
+unfolding kept
+row-kept w {t} p child row s f l = by (transitionFits (transitionsIn (t .head)) (length (t .transitions))) refl
+  where
+    by : (b : Bool) → transitionFits (transitionsIn (t .head)) (length (t .transitions)) ≡ b
+        → Kept w t (cond b (hooked t p child row) t) × (statesIn (cond b (hooked t p child row) t .head) ≡ statesIn (t .head))
+    by false e = (kept-none w s, refl)
+    by true e =
+        let room = fits-room (transitionsIn (t .head)) (length (t .transitions)) e in
+        let h = hooked-is t p child row (f .long) room in
+        (hooked-kept w p child row s h room f l, head-kept w p child row s h room f l 2 (omega arith))

@@ -1,0 +1,14 @@
+pub mod Known
+pub mod Columns
+pub mod Rows
+pub mod Found
+pub mod Sound
+pub mod Keeps
+pub mod Growing
+pub mod Hooking
+pub mod Entering
+pub mod Accepted
+pub mod Reached
+pub mod Promises
+pub mod Held
+pub mod Rooms

@@ -1,0 +1,36 @@
+-- The tables and states that demand 3 speaks of, by the calls alone. Assumes nothing.
+use mathlib.Core.Path.{_≡_}
+use mathlib.Core.List.{List, [], _∷_, _++_}
+use Prim.Native.Nat.{ℕ}
+use lib.ListN.{length}
+use Rattle.selector.specs.Tags.{Tags}
+use Rattle.typed.specs.declared.SelectorInputs.{SelectorInputs}
+use Rattle.typed.specs.Typed.{inputsTags, inputsRow}
+use Rattle.table.specs.Tables.{Table}
+use Rattle.table.specs.Entering
+use Rattle.table.specs.Calls.{buildVerdict, enterVerdict}
+
+-- Build and an entering that are accepted, over words: `w` is the sheet's. The head has eight words, being an array of eight
+abbrev pub Builds : List ℕ → ℕ → Table → Type 0
+Builds w ranking t = (length (t .head) ≡ 8) × (buildVerdict w ranking (t .states) (t .cursors) ≡ 0)
+
+abbrev pub Enters : List ℕ → Table → ℕ → ℕ → SelectorInputs → Type 0
+Enters w t number stamp x = enterVerdict w t number stamp (inputsRow x) ≡ 0
+
+module _ (w : List ℕ) where
+  -- "a table last built of it and since written only by accepted calls given it, in any order": entering is the only call that writes a table
+  -- that is built, and a refused call changes nothing
+  pub data Covered : Table → Type 0 where
+    built : (t : Table) (stamp ranking : ℕ) → Builds w ranking t → Covered (Entering.built w stamp ranking t)
+    entered : {t : Table} → Covered t → (number stamp : ℕ) (x : SelectorInputs) → Enters w t number stamp x → Covered (Entering.entered w t number (inputsRow x))
+
+  -- "a state reached since from the root by a path": its number and its stamp, as the calls answered
+  pub data Reached : Table → ℕ → ℕ → List Tags → Type 0 where
+    -- the root, by the empty path
+    root : (t : Table) (stamp ranking : ℕ) → Builds w ranking t → Reached (Entering.built w stamp ranking t) 0 stamp []
+    -- the child that an accepted entering under a reached state answers, by one subject more
+    child : {t : Table} {number stamp : ℕ} {path : List Tags} → Reached t number stamp path → (x : SelectorInputs) → Enters w t number stamp x
+        → Reached (Entering.entered w t number (inputsRow x)) (Entering.childOf w t number (inputsRow x)) stamp (path ++ inputsTags x ∷ [])
+    -- and it stays reached after any accepted entering
+    later : {t : Table} {number stamp : ℕ} {path : List Tags} → Reached t number stamp path → (number′ stamp′ : ℕ) (x : SelectorInputs) → Enters w t number′ stamp′ x
+        → Reached (Entering.entered w t number′ (inputsRow x)) number stamp path

@@ -1,0 +1,57 @@
+-- Room for a path, and what its enterings answer. Assumes nothing.
+use mathlib.Core.Bool.{Bool, false, _&&_, _||_, cond}
+use mathlib.Core.List.{List, [], _∷_, _++_}
+use Prim.Native.Nat.{ℕ, _+_, _*_, _≤_}
+use lib.ListN.{length}
+use Rattle.theory.specs.States.{State, Sheet, root, enter}
+use Rattle.selector.specs.Tags.{Tags, stepMatches}
+use Rattle.typed.specs.declared.SelectorInputs.{SelectorInputs}
+use Rattle.typed.specs.Typed.{inputsRow}
+use Rattle.table.specs.Tables.{Table, selectorsOf}
+use Rattle.table.specs.Shape.{same}
+use Rattle.table.specs.Entering.{entered, childOf}
+use Rattle.table.specs.Calls.{enterVerdict}
+
+-- ---- the states that a path needs
+
+abbrev pub sameState : State → State → Bool
+sameState a b = same (a .cursors) (b .cursors) && same (a .matched) (b .matched)
+
+unfoldable pub holds : List State → State → Bool
+holds [] s = false
+holds (a ∷ held) s = sameState a s || holds held s
+
+-- with s, unless it is held already
+abbrev pub including : List State → State → List State
+including held s = cond (holds held s) held (held ++ s ∷ [])
+
+-- the path goes on from s: what is held, and each new state in order of first entry
+unfoldable pub heldAlong : Sheet Tags → List State → State → List Tags → List State
+heldAlong sheet held s [] = held
+heldAlong sheet held s (x ∷ path) = heldAlong sheet (including held (enter stepMatches sheet s x)) (enter stepMatches sheet s x) path
+
+-- the root, and each state along the path
+abbrev pub statesFor : List ℕ → List Tags → List State
+statesFor w path = heldAlong (selectorsOf w) (root (selectorsOf w) ∷ []) (root (selectorsOf w)) path
+
+unfoldable pub cursorsOf : List State → ℕ
+cursorsOf [] = 0
+cursorsOf (s ∷ held) = length (s .cursors) + cursorsOf held
+
+unfoldable pub matchedOf : List State → ℕ
+matchedOf [] = 0
+matchedOf (s ∷ held) = length (s .matched) + matchedOf held
+
+-- Rooms that suffice, from the sheet and the path
+pub record Roomy (w : List ℕ) (path : List Tags) (t : Table) : Type 0 where
+  pub few : length (statesFor w path) ≤ 512
+  pub states : 3 * length (statesFor w path) ≤ length (t .states)
+  pub cursors : cursorsOf (statesFor w path) ≤ length (t .cursors)
+  pub matched : matchedOf (statesFor w path) ≤ length (t .matched)
+
+-- ---- what entering subject after subject answers, each under the child before: the refusals, 0 for none
+
+unfoldable pub verdictsAlong : List ℕ → Table → ℕ → ℕ → List SelectorInputs → List ℕ
+verdictsAlong w t number stamp [] = []
+verdictsAlong w t number stamp (x ∷ path) =
+    enterVerdict w t number stamp (inputsRow x) ∷ verdictsAlong w (entered w t number (inputsRow x)) (childOf w t number (inputsRow x)) stamp path

@@ -1,0 +1,112 @@
+-- The ways through the test for room, a new state's words, and settling. Assumes nothing.
+use mathlib.Core.Path.{_≡_}
+use mathlib.Core.Bool.{Bool, true, false, _&&_, not}
+use mathlib.Core.List.{List, [], _∷_}
+use Prim.Native.Nat.{ℕ, _+_, _-_, _*_, _≤_, _<_}
+use native.Mathlib.Omega.{arith}
+use lib.ListN.{length}
+use lib.Seq.{sets}
+use lib.Dec.{ltb, leb}
+use borrow.Author.Tests.{lt-ltb, le-ltb, le-leb, lt-leb, ltb-true, leb-true, not-true, not-false}
+use Rattle.theory.specs.States.{State}
+use Rattle.theory.proofs.Lists.{and-left, and-right}
+use Rattle.lent.specs.Pool.{addressOf}
+use Rattle.table.specs.Tables.{table, statesIn, cursorsIn, matchedIn}
+use Rattle.table.specs.Entering.{fits, roomFor, grown, numberFor, holding}
+use Rattle.settle.specs.declared.Settled.the-variants.{At, NoRoom}
+use Rattle.settle.specs.Settling.{state, Settles}
+
+-- ---- room
+
+module _ (room used more u : ℕ) (eu : u ≡ used) where
+  pub fits-none : room < u → false ≡ fits room used more
+  fits-none h = rw (lt-leb (used + more) room (omega arith))
+
+  pub fits-less : u ≤ room → room - u < more → false ≡ fits room used more
+  fits-less k h = rw (lt-leb (used + more) room (omega arith))
+
+  pub fits-is : u ≤ room → more ≤ room - u → ltb (u + more) 4294967296 ≡ fits room used more
+  fits-is k h = rw (le-leb (used + more) room (omega arith), eu)
+
+module _ (h : List ℕ) (rs rc rm : ℕ) (nc nm : List ℕ) (n : ℕ) (en : n ≡ statesIn h) where
+  pub room-many : 512 ≤ n → false ≡ roomFor h rs rc rm (state nc nm)
+  unfolding roomFor
+  room-many l = rw (← en, le-ltb n 512 l)
+
+  module _ (three k : ℕ) (et : three ≡ 3) (ek : k ≡ n) (few : n < 512) where
+    pub room-rows : rs < three * (k + 1) → false ≡ roomFor h rs rc rm (state nc nm)
+    unfolding roomFor
+    room-rows l = rw (← en, lt-ltb n 512 few, lt-leb (3 * (n + 1)) rs (rw (et, ek) at l))
+
+    module _ (rows : three * (k + 1) ≤ rs) (c : ℕ) (b : Bool) (ec : c ≡ cursorsIn h) (eb : b ≡ fits rc c (length nc)) where
+      pub room-cursors : not b ≡ true → false ≡ roomFor h rs rc rm (state nc nm)
+      unfolding roomFor
+      room-cursors l = rw (← en, lt-ltb n 512 few, le-leb (3 * (n + 1)) rs (rw (et, ek) at rows), ← ec, ← eb, not-true b l)
+
+      pub room-is : not b ≡ false → (m : ℕ) (d : Bool) → m ≡ matchedIn h → d ≡ fits rm m (length nm) → d ≡ roomFor h rs rc rm (state nc nm)
+      unfolding roomFor
+      room-is l m d em ed = rw (← en, lt-ltb n 512 few, le-leb (3 * (n + 1)) rs (rw (et, ek) at rows), ← ec, ← eb, not-false b l, ← em) ed
+
+-- what the test means
+pub record Roomy (h : List ℕ) (rs rc rm : ℕ) (x : State) : Type 0 where
+  pub few : statesIn h < 512
+  pub rows : 3 * (statesIn h + 1) ≤ rs
+  pub cursors : cursorsIn h + length (x .cursors) ≤ rc
+  pub cursors-fit : cursorsIn h + length (x .cursors) < 4294967296
+  pub matched : matchedIn h + length (x .matched) ≤ rm
+  pub matched-fit : matchedIn h + length (x .matched) < 4294967296
+
+pub roomy : (h : List ℕ) (rs rc rm : ℕ) (x : State) → roomFor h rs rc rm x ≡ true → Roomy h rs rc rm x
+unfolding roomFor
+roomy h rs rc rm x e =
+    let cs = cursorsIn h + length (x .cursors) in
+    let ms = matchedIn h + length (x .matched) in
+    let r = and-right (ltb (statesIn h) 512) _ e in
+    let p = and-right (leb (3 * (statesIn h + 1)) rs) _ r in
+    let c = and-left (leb cs rc && ltb cs 4294967296) _ p in
+    let m = and-right (leb cs rc && ltb cs 4294967296) _ p in
+    record {
+      few = ltb-true _ _ (and-left _ _ e);
+      rows = leb-true _ _ (and-left _ _ r);
+      cursors = leb-true cs rc (and-left _ (ltb cs 4294967296) c);
+      cursors-fit = ltb-true cs 4294967296 (and-right (leb cs rc) _ c);
+      matched = leb-true ms rm (and-left _ (ltb ms 4294967296) m);
+      matched-fit = ltb-true ms 4294967296 (and-right (leb ms rm) _ m);
+    }
+
+-- ---- a new state
+
+pub grown-is : (h s c m nc nm h′ s′ c′ m′ : List ℕ) (n kc km wc wm at : ℕ)
+    → n ≡ statesIn h
+    → kc ≡ cursorsIn h
+    → km ≡ matchedIn h
+    → wc ≡ kc
+    → c′ ≡ sets c wc nc
+    → wm ≡ km
+    → m′ ≡ sets m wm nm
+    → at ≡ addressOf 0 3 n
+    → s′ ≡ sets s at ((kc + length nc) ∷ (km + length nm) ∷ 0 ∷ [])
+    → h′ ≡ sets h 2 ((n + 1) ∷ (kc + length nc) ∷ (km + length nm) ∷ [])
+    → (t : List ℕ) → table h′ s′ c′ m′ t ≡ grown (table h s c m t) (state nc nm)
+unfolding grown
+grown-is h s c m nc nm h′ s′ c′ m′ n kc km wc wm at en ec em ewc pc ewm pm ea ps ph t =
+    let a : at ≡ 3 * n = omega arith in
+    rw (pc, pm, ps, ph, ewc, ewm, a, en, ec, em)
+
+-- ---- settling
+
+module _ (h s c m nc nm : List ℕ) (n k : ℕ) (en : n ≡ statesIn h) (ek : k ≡ numberFor s c m n (state nc nm)) where
+  pub settle-held : k < n → (t : List ℕ) → Settles (table h s c m t) (state nc nm) (At k) (table h s c m t)
+  unfolding holding
+  settle-held l t = record { answer = rw (← en, ← ek, lt-ltb k n l); memory = rw (← en, ← ek, lt-ltb k n l) }
+
+  module _ (new : n ≤ k) (b : Bool) (eb : b ≡ roomFor h (length s) (length c) (length m) (state nc nm)) where
+    pub settle-full : not b ≡ true → (t : List ℕ) → Settles (table h s c m t) (state nc nm) NoRoom (table h s c m t)
+    settle-full e t = record { answer = rw (← en, ← ek, le-ltb k n new, ← eb, e); memory = rw (← en, ← ek, le-ltb k n new, ← eb, e) }
+
+    pub settle-new : {h′ s′ c′ m′ : List ℕ}
+        → not b ≡ false
+        → ((t : List ℕ) → table h′ s′ c′ m′ t ≡ grown (table h s c m t) (state nc nm))
+        → (t : List ℕ) → Settles (table h s c m t) (state nc nm) (At k) (table h′ s′ c′ m′ t)
+    unfolding holding
+    settle-new e g t = record { answer = rw (← en, ← ek, le-ltb k n new, ← eb, e); memory = rw (← en, ← ek, le-ltb k n new, ← eb, e) (g t) }

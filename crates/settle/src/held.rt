@@ -1,0 +1,284 @@
+// For callers that hold the table to its shape already.
+use crate::Settled;
+use cached::held::leads;
+use lent::lists::Column;
+use lent::lists::address;
+use lent::lists::cell;
+use lent::lists::list_of;
+use lent::sets::compare;
+use lent::words::copy_into;
+use lent::words::put;
+use lent::words::wide;
+use lent::words::word;
+use table::layout;
+ghost use mathlib.Core.Path.{_≡_};
+ghost use mathlib.Core.Bool.{true, false};
+ghost use mathlib.Core.List.{List};
+ghost use Prim.Native.Nat.{ℕ, _<_};
+ghost use lib.ListN.{length};
+ghost use Rattle.table.specs.Tables.{table, transitionsIn, firstLink};
+ghost use Rattle.table.specs.Entering.{leads, isState, numberFor, fits, roomFor, grown, transitionFits, lastFrom, withRow, hooked, kept};
+ghost use Rattle.settle.specs.Settling.{state, Settles};
+
+// ---- an equal state
+
+fn is_state(
+    states: &[u32],
+    cursors: &[u32],
+    matched: &[u32],
+    next: &[u32],
+    listed: &[u32],
+    k: u32,
+) -> bool
+    ensures { λ r. ⌜ r ≡ isState (now (states .entry)) (now (cursors .entry)) (now (matched .entry)) (state (now (next .entry)) (now (listed .entry))) k ⌝ }
+{
+    let cursor_ends = Column {
+        base: layout::CURSOR_END,
+        stride: layout::STATE_WORDS,
+    };
+    let matched_ends = Column {
+        base: layout::MATCHED_END,
+        stride: layout::STATE_WORDS,
+    };
+    if compare(list_of(states, cursor_ends, cursors, k), next) != 0 {
+        return false;
+    }
+    compare(list_of(states, matched_ends, matched, k), listed) == 0
+}
+
+// The first of n states with these lists; n if there is none.
+fn number_for(
+    states: &[u32],
+    cursors: &[u32],
+    matched: &[u32],
+    n: u32,
+    next: &[u32],
+    listed: &[u32],
+) -> u32
+    ensures { λ r. ⌜ r ≡ numberFor (now (states .entry)) (now (cursors .entry)) (now (matched .entry)) n (state (now (next .entry)) (now (listed .entry))) ⌝ }
+{
+    let mut k = 0;
+    while k < n {
+        if is_state(states, cursors, matched, next, listed, k) {
+            return k;
+        }
+        k += 1;
+    }
+    n
+}
+
+// ---- a new state
+
+fn fits(room: usize, used: u32, more: usize) -> bool
+    ensures { λ r. ⌜ r ≡ fits room used more ⌝ }
+{
+    let used = wide(used);
+    if room < used {
+        return false;
+    }
+    if room - used < more {
+        return false;
+    }
+    used + more < 4294967296
+}
+
+fn room_for(
+    head: &[u32],
+    states: usize,
+    cursors: usize,
+    matched: usize,
+    next: &[u32],
+    listed: &[u32],
+) -> bool
+    ensures { λ r. ⌜ r ≡ roomFor (now (head .entry)) states cursors matched (state (now (next .entry)) (now (listed .entry))) ⌝ }
+{
+    let n = word(head, layout::STATES);
+    if 512 <= n {
+        return false;
+    }
+    if states < wide(layout::STATE_WORDS) * (wide(n) + 1) {
+        return false;
+    }
+    if !fits(cursors, word(head, layout::CURSORS), next.len()) {
+        return false;
+    }
+    fits(matched, word(head, layout::MATCHED), listed.len())
+}
+
+fn grow(
+    head: &mut [u32],
+    states: &mut [u32],
+    cursors: &mut [u32],
+    matched: &mut [u32],
+    next: &[u32],
+    listed: &[u32],
+)
+    requires { ⌜ roomFor (now head) (length (now states)) (length (now cursors)) (length (now matched)) (state (now next) (now listed)) ≡ true ⌝ }
+    ensures { λ _. ⌜ ((t : List ℕ) → table (now (head .exit)) (now (states .exit)) (now (cursors .exit)) (now (matched .exit)) t ≡ grown (table (now (head .entry)) (now (states .entry)) (now (cursors .entry)) (now (matched .entry)) t) (state (now (next .entry)) (now (listed .entry)))) ⌝ }
+{
+    let rows = Column {
+        base: layout::CURSOR_END,
+        stride: layout::STATE_WORDS,
+    };
+    let n = word(head, layout::STATES);
+    let c = word(head, layout::CURSORS);
+    let m = word(head, layout::MATCHED);
+    let count = n + 1;
+    let cursor_end = c + next.len() as u32;
+    let matched_end = m + listed.len() as u32;
+    copy_into(cursors, wide(c), next);
+    copy_into(matched, wide(m), listed);
+    copy_into(states, address(rows, n), &[cursor_end, matched_end, 0]);
+    copy_into(head, layout::STATES, &[count, cursor_end, matched_end]);
+}
+
+// The number of the state with these lists: of an equal one, or of a new one.
+pub fn settle(
+    head: &mut [u32],
+    states: &mut [u32],
+    cursors: &mut [u32],
+    matched: &mut [u32],
+    next: &[u32],
+    listed: &[u32],
+) -> Settled
+    ensures { λ r. ⌜ ((t : List ℕ) → Settles (table (now (head .entry)) (now (states .entry)) (now (cursors .entry)) (now (matched .entry)) t) (state (now (next .entry)) (now (listed .entry))) r (table (now (head .exit)) (now (states .exit)) (now (cursors .exit)) (now (matched .exit)) t)) ⌝ }
+{
+    let n = word(head, layout::STATES);
+    let k = number_for(states, cursors, matched, n, next, listed);
+    if k < n {
+        return Settled::At(k);
+    }
+    if !room_for(
+        head,
+        states.len(),
+        cursors.len(),
+        matched.len(),
+        next,
+        listed,
+    ) {
+        return Settled::NoRoom;
+    }
+    grow(head, states, cursors, matched, next, listed);
+    Settled::At(k)
+}
+
+// ---- a transition
+
+fn transition_fits(n: u32, room: usize) -> bool
+    ensures { λ r. ⌜ r ≡ transitionFits n room ⌝ }
+{
+    if n == 4294967295 {
+        return false;
+    }
+    wide(layout::TRANSITION_WORDS) * (wide(n) + 1) <= room
+}
+
+// The last link of the chain.
+fn last_from(transitions: &[u32], count: u32, first: u32) -> u32
+    requires { ⌜ leads count first ≡ true ⌝ }
+    ensures { λ r. ⌜ (r ≡ lastFrom (now (transitions .entry)) count first count) × (leads count r ≡ true) ⌝ }
+{
+    let links = Column {
+        base: layout::NEXT_LINK,
+        stride: layout::TRANSITION_WORDS,
+    };
+    let mut link = first;
+    let mut left = count;
+    while left > 0 {
+        let next = cell(transitions, links, link - 1);
+        if !leads(count, next) {
+            return link;
+        }
+        link = next;
+        left -= 1;
+    }
+    link
+}
+
+// The row of transition n, not yet linked to.
+fn put_row(transitions: &mut [u32], n: u32, parent: u32, child: u32, row: &[u32])
+    ensures { λ _. ⌜ now (transitions .exit) ≡ withRow (now (transitions .entry)) n parent child (now (row .entry)) ⌝ }
+{
+    let parents = Column {
+        base: layout::PARENT,
+        stride: layout::TRANSITION_WORDS,
+    };
+    let subjects = Column {
+        base: layout::SUBJECT,
+        stride: layout::TRANSITION_WORDS,
+    };
+    copy_into(transitions, address(parents, n), &[parent, child, 0]);
+    copy_into(transitions, address(subjects, n), row);
+}
+
+// The parent's first transition.
+fn hook_first(
+    head: &mut [u32],
+    states: &mut [u32],
+    transitions: &mut [u32],
+    parent: u32,
+    child: u32,
+    row: &[u32],
+)
+    requires { ⌜ (transitionsIn (now head) < 4294967295) × (leads (transitionsIn (now head)) (firstLink (now states) parent) ≡ false) ⌝ }
+    ensures { λ _. ⌜ ((c m : List ℕ) → table (now (head .exit)) (now (states .exit)) c m (now (transitions .exit)) ≡ hooked (table (now (head .entry)) (now (states .entry)) c m (now (transitions .entry))) parent child (now (row .entry))) ⌝ }
+{
+    let firsts = Column {
+        base: layout::FIRST_LINK,
+        stride: layout::STATE_WORDS,
+    };
+    let n = word(head, layout::TRANSITIONS);
+    put_row(transitions, n, parent, child, row);
+    put(states, address(firsts, parent), n + 1);
+    put(head, layout::TRANSITIONS, n + 1);
+}
+
+// A further transition, after the last of the parent's chain.
+fn hook_last(
+    head: &mut [u32],
+    transitions: &mut [u32],
+    parent: u32,
+    child: u32,
+    row: &[u32],
+    first: u32,
+)
+    requires { ⌜ (transitionsIn (now head) < 4294967295) × (leads (transitionsIn (now head)) first ≡ true) ⌝ }
+    ensures { λ _. ⌜ ((s c m : List ℕ) → first ≡ firstLink s parent → table (now (head .exit)) s c m (now (transitions .exit)) ≡ hooked (table (now (head .entry)) s c m (now (transitions .entry))) parent child (now (row .entry))) ⌝ }
+{
+    let links = Column {
+        base: layout::NEXT_LINK,
+        stride: layout::TRANSITION_WORDS,
+    };
+    let n = word(head, layout::TRANSITIONS);
+    let last = last_from(transitions, n, first);
+    put_row(transitions, n, parent, child, row);
+    put(transitions, address(links, last - 1), n + 1);
+    put(head, layout::TRANSITIONS, n + 1);
+}
+
+// The transition is kept if there is room.
+pub fn keep(
+    head: &mut [u32],
+    states: &mut [u32],
+    transitions: &mut [u32],
+    parent: u32,
+    child: u32,
+    row: &[u32],
+)
+    ensures { λ _. ⌜ ((c m : List ℕ) → table (now (head .exit)) (now (states .exit)) c m (now (transitions .exit)) ≡ kept (table (now (head .entry)) (now (states .entry)) c m (now (transitions .entry))) parent child (now (row .entry))) ⌝ }
+{
+    let firsts = Column {
+        base: layout::FIRST_LINK,
+        stride: layout::STATE_WORDS,
+    };
+    let n = word(head, layout::TRANSITIONS);
+    if !transition_fits(n, transitions.len()) {
+        return;
+    }
+    let first = cell(states, firsts, parent);
+    if leads(n, first) {
+        hook_last(head, transitions, parent, child, row, first);
+    } else {
+        hook_first(head, states, transitions, parent, child, row);
+    }
+}

@@ -1,0 +1,8 @@
+// Putting a state into a table, or finding the equal one, and keeping a transition.
+pub mod held;
+
+// Where a state stands.
+pub enum Settled {
+    At(u32),
+    NoRoom,
+}
