@@ -58,14 +58,8 @@ fn largest_in(sheet: &[u32], column: Column, n: u32) -> u32
 pub fn largest_index(sheet: &[u32]) -> u32
     ensures { λ r. ⌜ r ≡ largest (indexesOf (sheetOf (now (sheet .entry)))) ⌝ }
 {
-    let styles = Column {
-        base: layout::STYLE_SOURCE,
-        stride: layout::STYLE_WORDS,
-    };
-    let rules = Column {
-        base: layout::RULE_SOURCE,
-        stride: layout::RULE_WORDS,
-    };
+    let styles = layout::STYLE_SOURCES;
+    let rules = layout::RULE_SOURCES;
     let a = largest_in(sheet, styles, word(sheet, layout::STYLES));
     let b = largest_in(sheet, rules, word(sheet, layout::RULES));
     if a < b {

@@ -1,5 +1,4 @@
 // For callers that hold the sheet to its shape and the subject's ids in order already.
-use lent::lists::Column;
 use lent::lists::cell;
 use lent::lists::start_of;
 use lent::words::wide;
@@ -33,10 +32,7 @@ pub struct Counts {
 fn descends(sheet: &[u32], s: u32) -> bool
     ensures { λ r. ⌜ r ≡ not (eqb (endsIn (now (sheet .entry)) STEP-COMBINATOR STEP-WORDS s) 0) ⌝ }
 {
-    let combinators = Column {
-        base: layout::STEP_COMBINATOR,
-        stride: layout::STEP_WORDS,
-    };
+    let combinators = layout::STEP_COMBINATORS;
     cell(sheet, combinators, s) != 0
 }
 
@@ -93,10 +89,7 @@ fn mark_one(sheet: &[u32], c: u32, subject: &[u32], marks: &mut [u8], hits: &mut
     requires { ⌜ (length (now marks) ≡ 2048) × (length (now hits) ≡ 256) ⌝ }
     ensures { λ _. ⌜ Marked (now (sheet .entry)) (rowAt 16 (now (subject .entry)) 0) (c ∷ []) (now (marks .entry)) (now (hits .entry)) (now (marks .exit)) (now (hits .exit)) ⌝ }
 {
-    let steps = Column {
-        base: layout::RULE_STEP_END,
-        stride: layout::RULE_WORDS,
-    };
+    let steps = layout::RULE_STEP_ENDS;
     let r = c / 8;
     if word(sheet, layout::RULES) <= r {
         return;

@@ -1,5 +1,4 @@
 // For callers that hold the table to its shape already.
-use lent::lists::Column;
 use lent::lists::cell;
 use lent::lists::part;
 use lent::sets::compare;
@@ -106,10 +105,7 @@ fn is_hit(transitions: &[u32], parent: u32, row: &[u32], k: u32) -> bool
     requires { ⌜ (rowFits 16 (now transitions) (subjectPlace k) ≡ true) × (rowFits 16 (now row) 0 ≡ true) ⌝ }
     ensures { λ r. ⌜ r ≡ isHit (now (transitions .entry)) parent (rowAt 16 (now (row .entry)) 0) k ⌝ }
 {
-    let parents = Column {
-        base: layout::PARENT,
-        stride: layout::TRANSITION_WORDS,
-    };
+    let parents = layout::PARENTS;
     if cell(transitions, parents, k) != parent {
         return false;
     }
@@ -122,10 +118,7 @@ fn cached_from(transitions: &[u32], count: u32, parent: u32, row: &[u32], first:
     requires { ⌜ (subjectsFit (now transitions) count ≡ true) × (rowFits 16 (now row) 0 ≡ true) ⌝ }
     ensures { λ r. ⌜ r ≡ cachedFrom (now (transitions .entry)) count parent (rowAt 16 (now (row .entry)) 0) first count ⌝ }
 {
-    let links = Column {
-        base: layout::NEXT_LINK,
-        stride: layout::TRANSITION_WORDS,
-    };
+    let links = layout::NEXT_LINKS;
     let mut link = first;
     let mut left = count;
     while left > 0 {
@@ -146,10 +139,7 @@ pub fn cached(head: &[u32], states: &[u32], transitions: &[u32], parent: u32, ro
     requires { ⌜ (subjectsFit (now transitions) (transitionsIn (now head)) ≡ true) × (rowFits 16 (now row) 0 ≡ true) ⌝ }
     ensures { λ r. ⌜ r ≡ cached (now (head .entry)) (now (states .entry)) (now (transitions .entry)) parent (rowAt 16 (now (row .entry)) 0) ⌝ }
 {
-    let firsts = Column {
-        base: layout::FIRST_LINK,
-        stride: layout::STATE_WORDS,
-    };
+    let firsts = layout::FIRST_LINKS;
     cached_from(
         transitions,
         word(head, layout::TRANSITIONS),

@@ -7,7 +7,6 @@ use given::held::put_counts;
 use given::held::put_rule_row;
 use given::held::put_step;
 use given::held::put_style_row;
-use lent::lists::Column;
 use lent::lists::cell;
 use lent::lists::part;
 use lent::words::copy_into;
@@ -55,10 +54,7 @@ fn put_held_steps(sheet: &mut [u32], s: u32, other: &[u32], n: u32)
     requires { ⌜ (s ≤ 2048) × (n ≤ stepsIn (now other)) × (sheetShape (now other) ≡ true) ⌝ }
     ensures { λ _. ⌜ now (sheet .exit) ≡ sets (now (sheet .entry)) (stepPlace s) (flatMap stepWords (spread (partAt (now (other .entry))) 0 n)) ⌝ }
 {
-    let combinators = Column {
-        base: layout::STEP_COMBINATOR,
-        stride: layout::STEP_WORDS,
-    };
+    let combinators = layout::STEP_COMBINATORS;
     let mut j = 0;
     while j < n {
         let code = cell(other, combinators, j);
@@ -72,26 +68,11 @@ fn put_held_rule(sheet: &mut [u32], c: Counts, other: &[u32], k: u32)
     requires { ⌜ Within c × (k < rulesIn (now other)) × (sheetShape (now other) ≡ true) ⌝ }
     ensures { λ _. ⌜ now (sheet .exit) ≡ sets (now (sheet .entry)) (RULE-ORIGIN + RULE-WORDS * (c .rules + k)) (heldRow c (now (other .entry)) k) ⌝ }
 {
-    let origins = Column {
-        base: layout::RULE_ORIGIN,
-        stride: layout::RULE_WORDS,
-    };
-    let sources = Column {
-        base: layout::RULE_SOURCE,
-        stride: layout::RULE_WORDS,
-    };
-    let orders = Column {
-        base: layout::RULE_ORDER,
-        stride: layout::RULE_WORDS,
-    };
-    let steps = Column {
-        base: layout::RULE_STEP_END,
-        stride: layout::RULE_WORDS,
-    };
-    let entries = Column {
-        base: layout::RULE_ENTRY_END,
-        stride: layout::RULE_WORDS,
-    };
+    let origins = layout::RULE_ORIGINS;
+    let sources = layout::RULE_SOURCES;
+    let orders = layout::RULE_ORDERS;
+    let steps = layout::RULE_STEP_ENDS;
+    let entries = layout::RULE_ENTRY_ENDS;
     put_rule_row(
         sheet,
         wide(c.rules + k),
@@ -121,18 +102,9 @@ fn put_held_style(sheet: &mut [u32], c: Counts, other: &[u32], k: u32)
     requires { ⌜ Within c × (k < stylesIn (now other)) × (sheetShape (now other) ≡ true) ⌝ }
     ensures { λ _. ⌜ now (sheet .exit) ≡ sets (now (sheet .entry)) (STYLE-ORIGIN + STYLE-WORDS * (c .styles + k)) (heldStyleRow c (now (other .entry)) k) ⌝ }
 {
-    let origins = Column {
-        base: layout::STYLE_ORIGIN,
-        stride: layout::STYLE_WORDS,
-    };
-    let sources = Column {
-        base: layout::STYLE_SOURCE,
-        stride: layout::STYLE_WORDS,
-    };
-    let entries = Column {
-        base: layout::STYLE_ENTRY_END,
-        stride: layout::STYLE_WORDS,
-    };
+    let origins = layout::STYLE_ORIGINS;
+    let sources = layout::STYLE_SOURCES;
+    let entries = layout::STYLE_ENTRY_ENDS;
     put_style_row(
         sheet,
         wide(c.styles + k),

@@ -1,7 +1,6 @@
 // For callers that hold the table to its shape already.
 use crate::Settled;
 use cached::held::leads;
-use lent::lists::Column;
 use lent::lists::address;
 use lent::lists::cell;
 use lent::lists::list_of;
@@ -32,14 +31,8 @@ fn is_state(
 ) -> bool
     ensures { λ r. ⌜ r ≡ isState (now (states .entry)) (now (cursors .entry)) (now (matched .entry)) (state (now (next .entry)) (now (listed .entry))) k ⌝ }
 {
-    let cursor_ends = Column {
-        base: layout::CURSOR_END,
-        stride: layout::STATE_WORDS,
-    };
-    let matched_ends = Column {
-        base: layout::MATCHED_END,
-        stride: layout::STATE_WORDS,
-    };
+    let cursor_ends = layout::CURSOR_ENDS;
+    let matched_ends = layout::MATCHED_ENDS;
     if compare(list_of(states, cursor_ends, cursors, k), next) != 0 {
         return false;
     }
@@ -116,10 +109,7 @@ fn grow(
     requires { ⌜ roomFor (now head) (length (now states)) (length (now cursors)) (length (now matched)) (state (now next) (now listed)) ≡ true ⌝ }
     ensures { λ _. ⌜ ((t : List ℕ) → table (now (head .exit)) (now (states .exit)) (now (cursors .exit)) (now (matched .exit)) t ≡ grown (table (now (head .entry)) (now (states .entry)) (now (cursors .entry)) (now (matched .entry)) t) (state (now (next .entry)) (now (listed .entry)))) ⌝ }
 {
-    let rows = Column {
-        base: layout::CURSOR_END,
-        stride: layout::STATE_WORDS,
-    };
+    let rows = layout::CURSOR_ENDS;
     let n = word(head, layout::STATES);
     let c = word(head, layout::CURSORS);
     let m = word(head, layout::MATCHED);
@@ -178,10 +168,7 @@ fn last_from(transitions: &[u32], count: u32, first: u32) -> u32
     requires { ⌜ leads count first ≡ true ⌝ }
     ensures { λ r. ⌜ (r ≡ lastFrom (now (transitions .entry)) count first count) × (leads count r ≡ true) ⌝ }
 {
-    let links = Column {
-        base: layout::NEXT_LINK,
-        stride: layout::TRANSITION_WORDS,
-    };
+    let links = layout::NEXT_LINKS;
     let mut link = first;
     let mut left = count;
     while left > 0 {
@@ -199,14 +186,8 @@ fn last_from(transitions: &[u32], count: u32, first: u32) -> u32
 fn put_row(transitions: &mut [u32], n: u32, parent: u32, child: u32, row: &[u32])
     ensures { λ _. ⌜ now (transitions .exit) ≡ withRow (now (transitions .entry)) n parent child (now (row .entry)) ⌝ }
 {
-    let parents = Column {
-        base: layout::PARENT,
-        stride: layout::TRANSITION_WORDS,
-    };
-    let subjects = Column {
-        base: layout::SUBJECT,
-        stride: layout::TRANSITION_WORDS,
-    };
+    let parents = layout::PARENTS;
+    let subjects = layout::SUBJECTS;
     copy_into(transitions, address(parents, n), &[parent, child, 0]);
     copy_into(transitions, address(subjects, n), row);
 }
@@ -223,10 +204,7 @@ fn hook_first(
     requires { ⌜ (transitionsIn (now head) < 4294967295) × (leads (transitionsIn (now head)) (firstLink (now states) parent) ≡ false) ⌝ }
     ensures { λ _. ⌜ ((c m : List ℕ) → table (now (head .exit)) (now (states .exit)) c m (now (transitions .exit)) ≡ hooked (table (now (head .entry)) (now (states .entry)) c m (now (transitions .entry))) parent child (now (row .entry))) ⌝ }
 {
-    let firsts = Column {
-        base: layout::FIRST_LINK,
-        stride: layout::STATE_WORDS,
-    };
+    let firsts = layout::FIRST_LINKS;
     let n = word(head, layout::TRANSITIONS);
     put_row(transitions, n, parent, child, row);
     put(states, address(firsts, parent), n + 1);
@@ -245,10 +223,7 @@ fn hook_last(
     requires { ⌜ (transitionsIn (now head) < 4294967295) × (leads (transitionsIn (now head)) first ≡ true) ⌝ }
     ensures { λ _. ⌜ ((s c m : List ℕ) → first ≡ firstLink s parent → table (now (head .exit)) s c m (now (transitions .exit)) ≡ hooked (table (now (head .entry)) s c m (now (transitions .entry))) parent child (now (row .entry))) ⌝ }
 {
-    let links = Column {
-        base: layout::NEXT_LINK,
-        stride: layout::TRANSITION_WORDS,
-    };
+    let links = layout::NEXT_LINKS;
     let n = word(head, layout::TRANSITIONS);
     let last = last_from(transitions, n, first);
     put_row(transitions, n, parent, child, row);
@@ -267,10 +242,7 @@ pub fn keep(
 )
     ensures { λ _. ⌜ ((c m : List ℕ) → table (now (head .exit)) (now (states .exit)) c m (now (transitions .exit)) ≡ kept (table (now (head .entry)) (now (states .entry)) c m (now (transitions .entry))) parent child (now (row .entry))) ⌝ }
 {
-    let firsts = Column {
-        base: layout::FIRST_LINK,
-        stride: layout::STATE_WORDS,
-    };
+    let firsts = layout::FIRST_LINKS;
     let n = word(head, layout::TRANSITIONS);
     if !transition_fits(n, transitions.len()) {
         return;

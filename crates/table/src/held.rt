@@ -1,5 +1,4 @@
 // For callers that hold the sheet to its shape already.
-use lent::lists::Column;
 use lent::lists::cell;
 use lent::lists::start_of;
 use lent::words::word;
@@ -18,10 +17,7 @@ pub fn roots(sheet: &[u32], cursors: &mut [u32]) -> usize
     requires { ⌜ (sheetShape (now sheet) ≡ true) × (256 ≤ length (now cursors)) ⌝ }
     ensures { λ r. ⌜ Holds (starts 0 (selectorsOf (now (sheet .entry)))) (now (cursors .entry)) r (now (cursors .exit)) ⌝ }
 {
-    let steps = Column {
-        base: layout::RULE_STEP_END,
-        stride: layout::RULE_WORDS,
-    };
+    let steps = layout::RULE_STEP_ENDS;
     let rules = word(sheet, layout::RULES);
     let mut used = 0;
     let mut r = 0;

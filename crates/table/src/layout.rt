@@ -1,4 +1,5 @@
 // Where each thing stands in a table's words.
+use lent::lists::Column;
 
 // The head.
 pub const STAMP: usize = 0;
@@ -32,3 +33,39 @@ pub const CHILD: u32 = 1;
 pub const NEXT_LINK: u32 = 2;
 
 pub const SUBJECT: u32 = 3;
+
+// The columns of these rows.
+pub const CURSOR_ENDS: Column = Column {
+    base: CURSOR_END,
+    stride: STATE_WORDS,
+};
+
+pub const MATCHED_ENDS: Column = Column {
+    base: MATCHED_END,
+    stride: STATE_WORDS,
+};
+
+pub const FIRST_LINKS: Column = Column {
+    base: FIRST_LINK,
+    stride: STATE_WORDS,
+};
+
+pub const PARENTS: Column = Column {
+    base: PARENT,
+    stride: TRANSITION_WORDS,
+};
+
+pub const CHILDREN: Column = Column {
+    base: CHILD,
+    stride: TRANSITION_WORDS,
+};
+
+pub const NEXT_LINKS: Column = Column {
+    base: NEXT_LINK,
+    stride: TRANSITION_WORDS,
+};
+
+pub const SUBJECTS: Column = Column {
+    base: SUBJECT,
+    stride: TRANSITION_WORDS,
+};

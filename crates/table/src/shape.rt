@@ -1,7 +1,6 @@
 // The test of a table's shape, clause by clause.
 use crate::held::roots;
 use crate::layout;
-use lent::lists::Column;
 use lent::lists::cell;
 use lent::lists::list_of;
 use lent::lists::start_of;
@@ -114,34 +113,22 @@ fn counts_fit(
 fn cursors_ascend(states: &[u32], cursors: &[u32], k: u32) -> bool
     ensures { λ r. ⌜ r ≡ cursorsAscend (now (states .entry)) (now (cursors .entry)) k ⌝ }
 {
-    let ends = Column {
-        base: layout::CURSOR_END,
-        stride: layout::STATE_WORDS,
-    };
+    let ends = layout::CURSOR_ENDS;
     is_ascending(list_of(states, ends, cursors, k))
 }
 
 fn matched_ascend(states: &[u32], matched: &[u32], k: u32) -> bool
     ensures { λ r. ⌜ r ≡ matchedAscend (now (states .entry)) (now (matched .entry)) k ⌝ }
 {
-    let ends = Column {
-        base: layout::MATCHED_END,
-        stride: layout::STATE_WORDS,
-    };
+    let ends = layout::MATCHED_ENDS;
     is_ascending(list_of(states, ends, matched, k))
 }
 
 fn state_fine(states: &[u32], cursors: &[u32], matched: &[u32], k: u32) -> bool
     ensures { λ r. ⌜ r ≡ stateFine (now (states .entry)) (now (cursors .entry)) (now (matched .entry)) k ⌝ }
 {
-    let cursor_ends = Column {
-        base: layout::CURSOR_END,
-        stride: layout::STATE_WORDS,
-    };
-    let matched_ends = Column {
-        base: layout::MATCHED_END,
-        stride: layout::STATE_WORDS,
-    };
+    let cursor_ends = layout::CURSOR_ENDS;
+    let matched_ends = layout::MATCHED_ENDS;
     if !end_to_end(states, cursor_ends, k) {
         return false;
     }
@@ -170,14 +157,8 @@ fn each_state_fine(states: &[u32], cursors: &[u32], matched: &[u32], n: u32) -> 
 fn lists_meet(head: &[u32], states: &[u32]) -> bool
     ensures { λ r. ⌜ r ≡ listsMeet (now (head .entry)) (now (states .entry)) ⌝ }
 {
-    let cursor_ends = Column {
-        base: layout::CURSOR_END,
-        stride: layout::STATE_WORDS,
-    };
-    let matched_ends = Column {
-        base: layout::MATCHED_END,
-        stride: layout::STATE_WORDS,
-    };
+    let cursor_ends = layout::CURSOR_ENDS;
+    let matched_ends = layout::MATCHED_ENDS;
     let n = word(head, layout::STATES);
     if !ends_at(states, cursor_ends, n, word(head, layout::CURSORS)) {
         return false;
@@ -200,10 +181,7 @@ fn cursor_exists(sheet: &[u32], cursor: u32) -> bool
     requires { ⌜ sheetShape (now sheet) ≡ true ⌝ }
     ensures { λ r. ⌜ r ≡ cursorExists (now (sheet .entry)) cursor ⌝ }
 {
-    let steps = Column {
-        base: sheet::layout::RULE_STEP_END,
-        stride: sheet::layout::RULE_WORDS,
-    };
+    let steps = sheet::layout::RULE_STEP_ENDS;
     let r = cursor / 8;
     if word(sheet, sheet::layout::RULES) <= r {
         return false;
@@ -333,20 +311,14 @@ fn subject_fine(transitions: &[u32], k: u32) -> bool
 fn parent_exists(head: &[u32], transitions: &[u32], k: u32) -> bool
     ensures { λ r. ⌜ r ≡ parentExists (now (head .entry)) (now (transitions .entry)) k ⌝ }
 {
-    let parents = Column {
-        base: layout::PARENT,
-        stride: layout::TRANSITION_WORDS,
-    };
+    let parents = layout::PARENTS;
     cell(transitions, parents, k) < word(head, layout::STATES)
 }
 
 fn child_exists(head: &[u32], transitions: &[u32], k: u32) -> bool
     ensures { λ r. ⌜ r ≡ childExists (now (head .entry)) (now (transitions .entry)) k ⌝ }
 {
-    let children = Column {
-        base: layout::CHILD,
-        stride: layout::TRANSITION_WORDS,
-    };
+    let children = layout::CHILDREN;
     cell(transitions, children, k) < word(head, layout::STATES)
 }
 
@@ -382,10 +354,7 @@ fn root_cursors(sheet: &[u32], states: &[u32], cursors: &[u32]) -> bool
     requires { ⌜ sheetShape (now sheet) ≡ true ⌝ }
     ensures { λ r. ⌜ r ≡ rootCursors (now (sheet .entry)) (now (states .entry)) (now (cursors .entry)) ⌝ }
 {
-    let ends = Column {
-        base: layout::CURSOR_END,
-        stride: layout::STATE_WORDS,
-    };
+    let ends = layout::CURSOR_ENDS;
     let mut built = [0u32; 256];
     let n = roots(sheet, &mut built);
     compare(list_of(states, ends, cursors, 0), &built[..n]) == 0
@@ -394,10 +363,7 @@ fn root_cursors(sheet: &[u32], states: &[u32], cursors: &[u32]) -> bool
 fn root_matched(states: &[u32], matched: &[u32]) -> bool
     ensures { λ r. ⌜ r ≡ rootMatched (now (states .entry)) (now (matched .entry)) ⌝ }
 {
-    let ends = Column {
-        base: layout::MATCHED_END,
-        stride: layout::STATE_WORDS,
-    };
+    let ends = layout::MATCHED_ENDS;
     list_of(states, ends, matched, 0).len() == 0
 }
 
