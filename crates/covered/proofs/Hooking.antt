@@ -58,7 +58,7 @@ module _ (t : Table) (p child : ℕ) (row : List ℕ) (long : length row ≡ 38)
       first = firstLink (t .states) p
 
       by : (b : Bool) → Hooked t (cond b
-          (record { head = set (t .head) 5 (n + 1); states = t .states; cursors = t .cursors; matched = t .matched; transitions = linkedLast rows (lastFrom (t .transitions) n first n) n })
+          (record { head = set (t .head) 5 (n + 1); states = t .states; cursors = t .cursors; matched = t .matched; transitions = linkedLast rows (lastFrom (t .transitions) n first (n - 1)) n })
           (record { head = set (t .head) 5 (n + 1); states = linkedState (t .states) p n; cursors = t .cursors; matched = t .matched; transitions = rows }))
           (p ∷ child ∷ 0 ∷ row)
       by true = record {
@@ -67,9 +67,9 @@ module _ (t : Table) (p child : ℕ) (row : List ℕ) (long : length row ≡ 38)
         matched = refl;
         rows = refl;
         ends = λ c h k. refl;
-        long = length-set rows (addressOf 2 41 (lastFrom (t .transitions) n first n - 1)) (n + 1) ∙ length-sets (t .transitions) (41 * n) (p ∷ child ∷ 0 ∷ row);
-        before = λ k h. row-then (link-set rows (lastFrom (t .transitions) n first n - 1) (n + 1) k) (rows-before k h);
-        new = row-then (link-set rows (lastFrom (t .transitions) n first n - 1) (n + 1) n) rows-new;
+        long = length-set rows (addressOf 2 41 (lastFrom (t .transitions) n first (n - 1) - 1)) (n + 1) ∙ length-sets (t .transitions) (41 * n) (p ∷ child ∷ 0 ∷ row);
+        before = λ k h. row-then (link-set rows (lastFrom (t .transitions) n first (n - 1) - 1) (n + 1) k) (rows-before k h);
+        new = row-then (link-set rows (lastFrom (t .transitions) n first (n - 1) - 1) (n + 1) n) rows-new;
       }
       by false = record {
         head = refl;

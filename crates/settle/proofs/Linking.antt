@@ -12,6 +12,7 @@ use Rattle.theory.proofs.Lists.{and-left}
 use Rattle.lent.specs.Pool.{addressOf}
 use Rattle.lent.proofs.Placing.{sets-append}
 use Rattle.table.specs.Tables.{table, transitionsIn, firstLink, nextLink}
+use Rattle.table.proofs.Chains.{leads-some, leads-below}
 use Rattle.table.specs.Entering.{leads, transitionFits, lastFrom, withRow, hooked, kept}
 
 -- ---- tests
@@ -30,8 +31,10 @@ module _ (n room : ℕ) where
   number-left count b en eb e = rw (← en) (ltb-true _ _ (and-left (ltb n 4294967295) _ (sym eb ∙ not-false b e)))
 
 pub link-some : (count l : ℕ) → leads count l ≡ true → 0 < l
-unfolding leads
-link-some count l e = ltb-true _ _ (and-left _ _ e)
+link-some count l e = leads-some count l _ refl e
+
+pub count-some : (count l : ℕ) → leads count l ≡ true → 1 ≤ count
+count-some count l e = omega (arith, leads-some count l _ refl e, leads-below count l _ refl e)
 
 -- the same of equal numbers
 pub link-same : (count l n k : ℕ) (b d : Bool) → n ≡ count → k ≡ l → d ≡ leads n k → d ≡ b → leads count l ≡ b
@@ -41,18 +44,18 @@ link-same count l n k b d e f g h = rw (← e, ← f) (sym g ∙ h)
 
 -- the rest of the chain, from link on, ends where the whole does
 pub record Following (t : List ℕ) (count first link left : ℕ) : Type 0 where
-  pub whole : lastFrom t count first count ≡ lastFrom t count link left
+  pub whole : lastFrom t count first (count - 1) ≡ lastFrom t count link left
   pub there : leads count link ≡ true
   pub some : 0 < link
 
 abbrev pub IsLast : List ℕ → ℕ → ℕ → ℕ → Type 0
-IsLast t count first link = (link ≡ lastFrom t count first count) × (leads count link ≡ true)
+IsLast t count first link = (link ≡ lastFrom t count first (count - 1)) × (leads count link ≡ true)
 
-pub follow-start : (t : List ℕ) (count first : ℕ) → leads count first ≡ true → Following t count first first count
+pub follow-start : (t : List ℕ) (count first : ℕ) → leads count first ≡ true → Following t count first first (count - 1)
 follow-start t count first e = record { whole = refl; there = e; some = link-some count first e }
 
 module _ {t : List ℕ} {count first link left : ℕ} (w : Following t count first link left) where
-  follow-at : 0 < left → lastFrom t count first count ≡ cond (leads count (nextLink t (link - 1))) (lastFrom t count (nextLink t (link - 1)) (left - 1)) link
+  follow-at : 0 < left → lastFrom t count first (count - 1) ≡ cond (leads count (nextLink t (link - 1))) (lastFrom t count (nextLink t (link - 1)) (left - 1)) link
   unfolding lastFrom
   follow-at h = let e : left ≡ suc (left - 1) = omega arith in w .whole ∙ ap (λ (n : ℕ). lastFrom t count link n) e
 

@@ -13,7 +13,7 @@ use table::layout;
 ghost use mathlib.Core.Path.{_≡_};
 ghost use mathlib.Core.Bool.{true, false};
 ghost use mathlib.Core.List.{List};
-ghost use Prim.Native.Nat.{ℕ, _<_};
+ghost use Prim.Native.Nat.{ℕ, _-_, _<_};
 ghost use lib.ListN.{length};
 ghost use Rattle.table.specs.Tables.{table, transitionsIn, firstLink};
 ghost use Rattle.table.specs.Entering.{leads, isState, numberFor, fits, roomFor, grown, transitionFits, lastFrom, withRow, hooked, kept};
@@ -166,11 +166,11 @@ fn transition_fits(n: u32, room: usize) -> bool
 // The last link of the chain.
 fn last_from(transitions: &[u32], count: u32, first: u32) -> u32
     requires { ⌜ leads count first ≡ true ⌝ }
-    ensures { λ r. ⌜ (r ≡ lastFrom (now (transitions .entry)) count first count) × (leads count r ≡ true) ⌝ }
+    ensures { λ r. ⌜ (r ≡ lastFrom (now (transitions .entry)) count first (count - 1)) × (leads count r ≡ true) ⌝ }
 {
     let links = layout::NEXT_LINKS;
     let mut link = first;
-    let mut left = count;
+    let mut left = count - 1;
     while left > 0 {
         let next = cell(transitions, links, link - 1);
         if !leads(count, next) {

@@ -133,7 +133,7 @@ hooked t p child row =
     let head = set (t .head) 5 (n + 1) in
     let rows = withRow (t .transitions) n p child row in
     cond (leads n first)
-    (Tables.table head (t .states) (t .cursors) (t .matched) (linkedLast rows (lastFrom (t .transitions) n first n) n))
+    (Tables.table head (t .states) (t .cursors) (t .matched) (linkedLast rows (lastFrom (t .transitions) n first (n - 1)) n))
     (Tables.table head (linkedState (t .states) p n) (t .cursors) (t .matched) rows)
 
 unfoldable pub kept : Tables.Table → ℕ → ℕ → List ℕ → Tables.Table

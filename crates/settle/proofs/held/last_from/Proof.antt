@@ -1,5 +1,5 @@
 use borrow.Author.Needs.{needs}
-use Rattle.settle.proofs.Linking.{Following, follow-start, follow-here, follow-next, follow-end}
+use Rattle.settle.proofs.Linking.{Following, count-some, follow-start, follow-here, follow-next, follow-end}
 use Rattle.settle.proofs.held.last_from.Statement.{statement}
 use Rattle.settle.proofs.held.last_from.Tie as tie
 
@@ -8,6 +8,9 @@ Inv-loop transitions count first links link₀ left₀ link left = Following tra
 
 abbrev μ-loop : tie.MeasureT-loop
 μ-loop transitions count first links link₀ left₀ link left = left
+
+sub-left : tie.Need-sub-left Inv-loop μ-loop
+sub-left c = search (count-some, needs)
 
 loop-holds : tie.Need-loop-holds Inv-loop μ-loop
 loop-holds c = search (follow-start, needs)
@@ -26,8 +29,8 @@ returns c =
     let d = c .before .before in
     follow-here (d .before .before .loop .inv) _ _ (d .cell .ensures) (c .before .leads .ensures) (d .before .loop-test .taken) (c .if1 .taken)
 
-sub-left : tie.Need-sub-left Inv-loop μ-loop
-sub-left c = search needs
+sub-left-2 : tie.Need-sub-left-2 Inv-loop μ-loop
+sub-left-2 c = search needs
 
 loop-less : tie.Need-loop-less Inv-loop μ-loop
 loop-less c = search needs
@@ -44,12 +47,13 @@ last-from-spec =
     (tie.spec
     Inv-loop
     μ-loop
+    sub-left
     loop-holds
     sub-cell
     cell-requires
     leads-requires
     returns
-    sub-left
+    sub-left-2
     loop-less
     loop-again
     returns-2)
