@@ -5,9 +5,10 @@ use std::iter::{self, Peekable};
 
 use crate::builds::{BuildCase, Item, Machine, answer_stream as answer_builds};
 use crate::generate::random::Random;
-use crate::generate::{builds, paths};
+use crate::generate::{builds, paths, walks};
 use crate::paths::{PathCase, answer_stream};
-use crate::shrink::{Still, shrink_build, shrink_case, shrink_path};
+use crate::shrink::{Still, shrink_build, shrink_case, shrink_path, shrink_walk};
+use crate::walks::{Machine as Walker, WalkCase, answer_stream as answer_walks};
 use crate::words::{Case, answer_batch};
 
 /// A form in which cases are given to a command.
@@ -111,18 +112,60 @@ impl Form for BuildCase {
     }
 
     fn told(&self) -> String {
-        let item = |item: &Item| {
-            let words = spaced(&item.payload);
-            format!("op {}, {} words:{words}", item.op, item.payload.len())
-        };
-        let items: Vec<String> = self.items.iter().map(item).collect();
-        format!("case of {} items:\n{}", items.len(), items.join("\n"))
+        told_items(&self.items)
     }
 
     fn bytes(&self) -> usize {
-        let words = self.items.iter().map(|item| 2 + item.payload.len());
-        4 * words.sum::<usize>()
+        bytes_in(&self.items)
     }
+}
+
+impl Form for WalkCase {
+    const LONGEST_BATCH: usize = 4 * 1024 * 1024;
+
+    fn words(&self) -> Vec<u32> {
+        WalkCase::words(self)
+    }
+
+    fn answers(batch: &[u8]) -> Vec<String> {
+        vec![answer_walks(batch)]
+    }
+
+    fn answers_to(batch: &Batch<Self>) -> Vec<String> {
+        let mut walker = Walker::default();
+        let cases = batch.cases.iter();
+        let mut answers: Vec<String> = cases
+            .map(|case| walker.stream(&bytes_of(&case.words())))
+            .collect();
+        answers.push(walker.stream(&batch.tail));
+        answers
+    }
+
+    fn shrink(self, still: Still<'_, Self>) -> Result<Self, String> {
+        shrink_walk(self, still)
+    }
+
+    fn told(&self) -> String {
+        told_items(&self.items)
+    }
+
+    fn bytes(&self) -> usize {
+        bytes_in(&self.items)
+    }
+}
+
+fn told_items(items: &[Item]) -> String {
+    let item = |item: &Item| {
+        let words = spaced(&item.payload);
+        format!("op {}, {} words:{words}", item.op, item.payload.len())
+    };
+    let told: Vec<String> = items.iter().map(item).collect();
+    format!("case of {} items:\n{}", items.len(), told.join("\n"))
+}
+
+fn bytes_in(items: &[Item]) -> usize {
+    let words = items.iter().map(|item| 2 + item.payload.len());
+    4 * words.sum::<usize>()
 }
 
 /// The first of some words; a case that stays long fills no screen.
@@ -224,6 +267,14 @@ pub fn build_batches(
     seed: u64,
 ) -> impl Iterator<Item = Batch<BuildCase>> {
     batches_with_ends(cases, seed, builds::fixed_ends(), builds::random_end)
+}
+
+/// Batches of walks: the same.
+pub fn walk_batches(
+    cases: impl Iterator<Item = WalkCase>,
+    seed: u64,
+) -> impl Iterator<Item = Batch<WalkCase>> {
+    batches_with_ends(cases, seed, walks::fixed_ends(), walks::random_end)
 }
 
 fn batches_with_ends<T: Form>(

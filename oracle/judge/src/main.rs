@@ -17,7 +17,10 @@ mod shrink;
 mod tests;
 #[cfg(test)]
 mod tests_of_builds;
+#[cfg(test)]
+mod tests_of_walks;
 mod walk;
+mod walks;
 mod words;
 
 use std::fs;
@@ -25,11 +28,13 @@ use std::io::{self, Read, Write};
 use std::path::Path;
 use std::process::ExitCode;
 
-use batches::{Batch, Form, build_batches, list_batches, path_batches};
+use batches::{Batch, Form, build_batches, list_batches, path_batches, walk_batches};
 use builds::BuildCase;
 use compare::{compare_cases, compare_files};
+use generate::random::Random;
 use options::{Options, What};
 use paths::PathCase;
+use walks::WalkCase;
 use words::Case;
 
 const HELP: &str = "\
@@ -41,28 +46,33 @@ judge: answers test cases from the published code
       what `paths` has to print for a stream of path cases
   judge answer builds < INPUT
       what `builds` has to print for a stream of items about sheets
+  judge answer walks < INPUT
+      what `walks` has to print for a stream of items about tables
   judge walk < FILE
       what `walk` has to print for a file of house records
-  judge make lists|paths|builds --seed N --count N
+  judge make lists|paths|builds|walks --seed N --count N
       writes N cases to standard output, one after another
   judge make files --seed N --count N --into DIR
       writes N files of house records into DIR
-  judge compare lists|paths|builds --run COMMAND --seed N --count N
+  judge compare lists|paths|builds|walks --run COMMAND --seed N --count N
       gives N cases, in batches of at most 256 KiB (lists), 1 MiB (paths) or
-      4 MiB (builds), to a shell command on its standard input and compares
-      its output with the judge's; some batches end inside a case or in a
-      wrong one
+      4 MiB (builds, walks), to a shell command on its standard input and
+      compares its output with the judge's; some batches end inside a case or
+      in a wrong one
   judge compare files --run COMMAND --seed N --count N
       gives N files of house records to a shell command, one a run, and
       compares its output with the judge's byte for byte
-  judge store lists|paths|builds --seed N --count N --cases FILE --answers FILE
-      writes N cases and the judge's answers to them; of builds only small ones
+  judge store lists|paths|builds|walks --seed N --count N --cases FILE
+              --answers FILE
+      writes N cases and the judge's answers to them; of builds and walks only
+      small ones
   judge --help
       this text
 
 A seed always gives the same cases. With a count of at least twice as many as
 there are fixed cases (edges, and all small ones) every one of those is among
-them; 20,000 is enough for any. What is made or stored are whole cases only.
+them; 20,000 is enough for any, 5,000 for walks. What is made or stored are
+whole cases only.
 
 Status: 0 all equal or done; 1 a difference, told on standard output, made as
 small as it goes; 2 wrong usage, or something could not be read, written or run.
@@ -85,6 +95,7 @@ fn obey(arguments: &[String]) -> Result<ExitCode, String> {
         ["--help" | "-h" | "help"] => write(HELP.as_bytes())?,
         ["answer"] => write(Case::answers(&input()?).concat().as_bytes())?,
         ["answer", "builds"] => write(builds::answer_stream(&input()?).as_bytes())?,
+        ["answer", "walks"] => write(walks::answer_stream(&input()?).as_bytes())?,
         ["paths"] => write(PathCase::answers(&input()?).concat().as_bytes())?,
         ["walk"] => write(walk::walk(&input()?).as_bytes())?,
         ["make", what, ..] => make(What::named(what)?, &words[2..])?,
@@ -133,24 +144,47 @@ fn builds(seed: u64, count: usize) -> impl Iterator<Item = BuildCase> {
     stream(build_edges::fixed(), builds::random_case, seed, count)
 }
 
-/// Builds of at most 4 KB: those that are stored.
-fn small_builds(seed: u64, count: usize) -> impl Iterator<Item = BuildCase> {
-    use generate::random::Random;
-    use generate::{build_edges, builds, stream};
-    fn small(case: &BuildCase) -> bool {
-        case.bytes() <= 4000
-    }
-    fn random_case(random: &mut Random) -> BuildCase {
+fn walks(seed: u64, count: usize) -> impl Iterator<Item = WalkCase> {
+    use generate::{stream, walk_edges, walks};
+    stream(walk_edges::fixed(), walks::random_case, seed, count)
+}
+
+/// Cases that are stored: those for which `fits` holds.
+fn small<T: Clone>(
+    mut fixed: Vec<T>,
+    random: fn(&mut Random) -> T,
+    fits: fn(&T) -> bool,
+    seed: u64,
+    count: usize,
+) -> impl Iterator<Item = T> {
+    fixed.retain(fits);
+    let random = move |source: &mut Random| {
         loop {
-            let case = builds::random_case(random);
-            if small(&case) {
+            let case = random(source);
+            if fits(&case) {
                 return case;
             }
         }
-    }
-    let mut fixed = build_edges::fixed();
-    fixed.retain(small);
-    stream(fixed, random_case, seed, count)
+    };
+    generate::stream(fixed, random, seed, count)
+}
+
+/// Most bytes of a case that is stored, and most words of memory it tells.
+const MOST_STORED: usize = 4000;
+const MOST_TOLD: usize = 4000;
+
+fn small_builds(seed: u64, count: usize) -> impl Iterator<Item = BuildCase> {
+    use generate::{build_edges, builds};
+    let fits = |case: &BuildCase| case.bytes() <= MOST_STORED;
+    let fixed = build_edges::fixed();
+    small(fixed, builds::random_case, fits, seed, count)
+}
+
+fn small_walks(seed: u64, count: usize) -> impl Iterator<Item = WalkCase> {
+    use generate::{walk_edges, walks};
+    let fits = |case: &WalkCase| case.bytes() <= MOST_STORED && case.words_told() <= MOST_TOLD;
+    let fixed = walk_edges::fixed();
+    small(fixed, walks::random_case, fits, seed, count)
 }
 
 /// Bytes of whole cases, and what is to be printed for them, case by case.
@@ -173,6 +207,7 @@ impl Made {
             What::Lists => Ok(Self::of(lists(seed, count))),
             What::Paths => Ok(Self::of(paths(seed, count))),
             What::Builds => Ok(Self::of(builds(seed, count))),
+            What::Walks => Ok(Self::of(walks(seed, count))),
             What::Files => Err("files are not cases of a batch".to_string()),
         }
     }
@@ -204,6 +239,7 @@ fn store(what: What, words: &[&str]) -> Result<(), String> {
     let (seed, count) = (options.seed()?, options.count()?);
     let made = match what {
         What::Builds => Made::of(small_builds(seed, count)),
+        What::Walks => Made::of(small_walks(seed, count)),
         _ => Made::new(what, seed, count)?,
     };
     write_file(Path::new(options.text("--cases")?), &made.bytes)?;
@@ -227,6 +263,10 @@ fn compare(what: What, words: &[&str]) -> Result<ExitCode, String> {
         }
         What::Builds => {
             let batches = build_batches(builds(seed, count), seed);
+            compare_cases(name, command, seed, count, batches)?
+        }
+        What::Walks => {
+            let batches = walk_batches(walks(seed, count), seed);
             compare_cases(name, command, seed, count, batches)?
         }
         What::Files => compare_files(command, seed, count, files(seed, count))?,

@@ -8,15 +8,17 @@ pub enum What {
     Lists,
     Paths,
     Builds,
+    Walks,
     Files,
 }
 
 impl What {
     pub fn named(name: &str) -> Result<Self, String> {
-        [Self::Lists, Self::Paths, Self::Builds, Self::Files]
+        use What::*;
+        [Lists, Paths, Builds, Walks, Files]
             .into_iter()
             .find(|what| what.name() == name)
-            .ok_or_else(|| format!("`{name}` is none of lists, paths, builds, files"))
+            .ok_or_else(|| format!("`{name}` is none of lists, paths, builds, walks, files"))
     }
 
     pub fn name(self) -> &'static str {
@@ -24,6 +26,7 @@ impl What {
             Self::Lists => "lists",
             Self::Paths => "paths",
             Self::Builds => "builds",
+            Self::Walks => "walks",
             Self::Files => "files",
         }
     }

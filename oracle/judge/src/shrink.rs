@@ -3,8 +3,11 @@
 //! Everything here tries something smaller and keeps it if the difference is
 //! still there. `still` answers that, and runs the command.
 
-use crate::builds::{BuildCase, GROUP, Item, STYLE};
+use crate::builds::model::{Model, Rule};
+use crate::builds::{BuildCase, GROUP, Item, MOST_ROOM, STYLE};
+use crate::generate::walks::sheet;
 use crate::paths::{PathCase, ROW_HEAD, STEP_IDS, STEP_ROW, SUBJECT_IDS};
+use crate::walks::{Machine, ROOMS, SHEET, WalkCase};
 use crate::words::{Case, split};
 
 /// Whether an input still shows the difference; an error if that cannot be
@@ -228,21 +231,102 @@ pub fn shrink_build(case: BuildCase, still: Still<'_, BuildCase>) -> Result<Buil
         case.items = drop_some(case.items, &mut whole)?;
         for place in 0..case.items.len() {
             case = shrink_rules(case, place, still)?;
-            let base = case.clone();
-            let with = |payload: &Vec<u32>| {
-                let mut case = base.clone();
-                case.items[place].payload = payload.clone();
-                case
+            let mut whole = |items: &Vec<Item>| {
+                still(&BuildCase {
+                    items: items.clone(),
+                })
             };
-            let payload = case.items[place].payload.clone();
-            let payload = drop_some(payload, &mut |payload| still(&with(payload)))?;
-            let payload = lower(payload, &mut |payload| still(&with(payload)))?;
-            case = with(&payload);
+            case.items = shrink_payload(case.items, place, &mut whole)?;
         }
         if case == before {
             return Ok(case);
         }
     }
+}
+
+/// The smallest case of walks found: its items first, then the rules of its
+/// sheet, then the words of each item, the last items before the sheet.
+pub fn shrink_walk(case: WalkCase, still: Still<'_, WalkCase>) -> Result<WalkCase, String> {
+    let mut items = case.items;
+    let mut whole = |items: &Vec<Item>| {
+        still(&WalkCase {
+            items: items.clone(),
+        })
+    };
+    loop {
+        let before = items.clone();
+        items = drop_some(items, &mut whole)?;
+        items = shrink_sheet(items, &mut whole)?;
+        for place in (0..items.len()).rev() {
+            items = shrink_payload(items, place, &mut whole)?;
+        }
+        if items == before {
+            return Ok(WalkCase { items });
+        }
+    }
+}
+
+/// Leaves out rules, and then steps, of the first sheet that items store, if
+/// its words are in shape.
+fn shrink_sheet(items: Vec<Item>, still: Still<'_, Vec<Item>>) -> Result<Vec<Item>, String> {
+    let stores = |item: &Item| item.op == SHEET;
+    let begin = items.iter().position(stores).unwrap_or(items.len());
+    let length = items[begin..].iter().take_while(|item| stores(item));
+    let end = begin + length.count();
+    let mut machine = Machine::default();
+    let lent = [MOST_ROOM as u32];
+    machine.item(ROOMS, &lent);
+    for item in &items[begin..end] {
+        machine.item(item.op, &item.payload);
+    }
+    let Ok(model) = machine.look().cloned() else {
+        return Ok(items);
+    };
+    let with = |rules: &Vec<Rule>| {
+        let fewer = Model {
+            rules: rules.clone(),
+            ..model.clone()
+        };
+        [&items[..begin], &sheet(&fewer), &items[end..]].concat()
+    };
+    if model.rules.is_empty() || !still(&with(&model.rules))? {
+        return Ok(items);
+    }
+    let mut rules = drop_some(model.rules.clone(), &mut |rules| still(&with(rules)))?;
+    for number in 0..rules.len() {
+        for step in (0..rules[number].body.steps.len()).rev() {
+            let mut tried = rules.clone();
+            let body = &mut tried[number].body;
+            body.steps.remove(step);
+            if !body.codes.is_empty() {
+                body.codes.remove(step.saturating_sub(1));
+            }
+            if still(&with(&tried))? {
+                rules = tried;
+            }
+        }
+    }
+    if rules == model.rules {
+        return Ok(items);
+    }
+    Ok(with(&rules))
+}
+
+/// Leaves out words of an item's payload, then lowers them.
+fn shrink_payload(
+    items: Vec<Item>,
+    place: usize,
+    still: Still<'_, Vec<Item>>,
+) -> Result<Vec<Item>, String> {
+    let with = |payload: &Vec<u32>| {
+        let mut items = items.clone();
+        items[place].payload = payload.clone();
+        items
+    };
+    let payload = items[place].payload.clone();
+    let payload = drop_some(payload, &mut |payload| still(&with(payload)))?;
+    let payload = lower(payload, &mut |payload| still(&with(payload)))?;
+    Ok(with(&payload))
 }
 
 /// Leaves out whole rules of a group, and entries of a style, with what they

@@ -26,6 +26,7 @@ fn no_difference_from_itself() {
         ("lists", "JUDGE answer", "2000"),
         ("paths", "JUDGE paths", "2000"),
         ("builds", "JUDGE answer builds", "300"),
+        ("walks", "JUDGE answer walks", "300"),
     ] {
         let told = format!("compared {count} cases of {what}: no difference\n");
         assert_eq!(compare(what, run, count), (Some(0), told));
@@ -114,6 +115,28 @@ fn planted_difference_in_builds_is_made_small() {
     assert_eq!(status, Some(1));
     assert!(told.contains("at the end, bytes: "), "{told}");
     assert!(told.contains("expected:\n  too long\n"), "{told}");
+}
+
+#[test]
+fn planted_difference_in_walks_is_made_small() {
+    // A rule that is listed: one step that asks for nothing.
+    let run = "JUDGE answer walks | sed 's/^list 0$/list 1/'";
+    let (status, told) = compare("walks", run, "2000");
+    assert_eq!(status, Some(1));
+    assert!(told.contains("walks, seed 3, case "), "{told}");
+    let items = "case of 6 items:\nop 1, 3 words: 0 1 1\nop 1, 5 words: 8 0 0 0 1\n\
+                 op 2, 4 words: 67016 6 1 1\nop 3, 1 words: 7\n\
+                 op 4, 2 words: 0 7\nop 5, 2 words: 1 7\n";
+    assert!(told.contains(items), "{told}");
+    let (_, expected) = told.split_once("expected:\n").expect("what is expected");
+    let (expected, actual) = expected.split_once("actual:\n").expect("what is printed");
+    assert!(expected.contains("  list 0\n"), "{told}");
+    assert!(actual.contains("  list 1\n"), "{told}");
+    let run = "JUDGE answer walks | sed 's/^build 6/build 5/'";
+    let (status, told) = compare("walks", run, "2000");
+    assert_eq!(status, Some(1));
+    let items = "case of 2 items:\nop 2, 1 words: 67016\nop 3, 2 words: 0 2\n";
+    assert!(told.contains(items), "{told}");
 }
 
 #[test]

@@ -66,10 +66,10 @@ pub struct BuildCase {
 }
 
 /// A payload from left to right: zeros after its end, lists cut there.
-struct Payload<'a>(&'a [u32]);
+pub struct Payload<'a>(pub &'a [u32]);
 
 impl Payload<'_> {
-    fn word(&mut self) -> u32 {
+    pub fn word(&mut self) -> u32 {
         match self.0.split_first() {
             Some((&word, rest)) => {
                 self.0 = rest;
@@ -79,7 +79,7 @@ impl Payload<'_> {
         }
     }
 
-    fn words<const COUNT: usize>(&mut self) -> [u32; COUNT] {
+    pub fn words<const COUNT: usize>(&mut self) -> [u32; COUNT] {
         [0; COUNT].map(|_| self.word())
     }
 
@@ -393,7 +393,7 @@ impl Machine {
 
 /// The first item and what comes after it, or the line on which the program
 /// ends. A length is judged as soon as it is read.
-fn read_item(bytes: &[u8]) -> Result<(Item, &[u8]), &'static str> {
+pub fn read_item(bytes: &[u8]) -> Result<(Item, &[u8]), &'static str> {
     const CUT_SHORT: &str = "cut short\n";
     let (op, rest) = bytes.split_first_chunk().ok_or(CUT_SHORT)?;
     let (length, rest) = rest.split_first_chunk().ok_or(CUT_SHORT)?;
@@ -430,7 +430,7 @@ fn verdict(tag: &str, done: Result<(), Refusal>) -> String {
     format!("{tag} {}\n", done.err().unwrap_or(0))
 }
 
-fn numbered<T>(tag: &str, numbers: impl IntoIterator<Item = T>) -> String
+pub fn numbered<T>(tag: &str, numbers: impl IntoIterator<Item = T>) -> String
 where
     T: std::fmt::Display,
 {

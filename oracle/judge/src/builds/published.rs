@@ -191,7 +191,7 @@ enum Push<'a> {
 /// Both cascades of a sheet.
 #[derive(Clone)]
 pub struct Built {
-    plain: StyleCascade,
+    pub plain: StyleCascade,
     open: StyleCascade,
 }
 

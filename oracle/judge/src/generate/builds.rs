@@ -495,8 +495,12 @@ pub fn random_case(random: &mut Random) -> BuildCase {
 /// byte up to the first word of payload, then word by word; lengths over the
 /// longest payload, with and without the words.
 pub fn fixed_ends() -> Vec<Vec<u8>> {
+    ends(&[read(0), item(11, &[1, 2]), style(1, 0, 2)], READ)
+}
+
+/// The ends of these items, the first of them short, and lengths of this op.
+pub fn ends(items: &[Item], op: u32) -> Vec<Vec<u8>> {
     let mut ends = Vec::new();
-    let items = [read(0), item(11, &[1, 2]), style(1, 0, 2)];
     for (number, item) in items.iter().enumerate() {
         let bytes = bytes_of(&item.words());
         let cuts = (1..bytes.len()).filter(|cut| match number {
@@ -507,20 +511,20 @@ pub fn fixed_ends() -> Vec<Vec<u8>> {
     }
     let longest = LONGEST_PAYLOAD;
     for length in [longest + 1, 0x1_0000, 0x8000_0000, 0xffff_fffe, u32::MAX] {
-        ends.push(bytes_of(&[READ, length]));
+        ends.push(bytes_of(&[op, length]));
         ends.push(bytes_of(&[99, length, 0, 0]));
     }
     for length in [longest, longest - 1] {
-        ends.push(bytes_of(&[READ, length]));
-        ends.push(bytes_of(&[READ, length, 1, 2, 3]));
+        ends.push(bytes_of(&[op, length]));
+        ends.push(bytes_of(&[op, length, 1, 2, 3]));
     }
     // All but the last byte, and one word too many that is there.
-    let mut almost = bytes_of(&[READ, longest]);
+    let mut almost = bytes_of(&[op, longest]);
     almost.resize(8 + 4 * longest as usize - 1, 0);
     ends.push(almost);
-    let mut over = bytes_of(&[READ, longest + 1]);
+    let mut over = bytes_of(&[op, longest + 1]);
     over.resize(8 + 4 * (longest as usize + 1), 0);
-    over.extend(bytes_of(&read(0).words()));
+    over.extend(bytes_of(&items[0].words()));
     ends.push(over);
     ends
 }

@@ -1,6 +1,6 @@
 //! Cases from a seed.
 //!
-//! Each of lists, paths, builds and files has fixed cases (all small ones, and the
+//! Each of lists, paths, builds, walks and files has fixed cases (all small ones, and the
 //! edges of every size) and random ones (valid and damaged). A stream of
 //! cases begins with all fixed ones if they are at most half of what was
 //! asked for; otherwise every second case, by chance, is a fixed one.
@@ -13,6 +13,8 @@ pub mod lists;
 pub mod paths;
 pub mod random;
 pub mod steps;
+pub mod walk_edges;
+pub mod walks;
 
 use random::Random;
 

@@ -12,10 +12,10 @@ use crate::shrink::changeable;
 /// What a step asks for, or what a subject has.
 #[derive(Clone, Debug, Default)]
 pub struct Tags {
-    type_tag: Option<u32>,
-    part_tag: Option<u32>,
-    classes: Vec<u32>,
-    pseudos: Vec<u32>,
+    pub type_tag: Option<u32>,
+    pub part_tag: Option<u32>,
+    pub classes: Vec<u32>,
+    pub pseudos: Vec<u32>,
 }
 
 impl Tags {

@@ -1,0 +1,53 @@
+-- Equal numbers told are equal answers, so that the contracts determine answer and memory. Assumes nothing.
+use mathlib.Core.Path.{_≡_, refl, sym, ap, _∙_}
+use mathlib.Core.List.{List}
+use Prim.Native.Nat.{ℕ}
+use lib.ListN.{getD}
+use Rattle.lent.proofs.Refusals.{readBack, read-refused}
+use Rattle.table.specs.Tables.{Table}
+use Rattle.matcher.specs.Answers.{buildingTold, enteringTold, listingTold, Build, Enter}
+use Rattle.matcher.specs.declared.Building.{Building}
+use Rattle.matcher.specs.declared.Entering.{Entering}
+use Rattle.matcher.specs.declared.Listing.{Listing}
+
+-- ---- read back
+
+building-back : (r : Building) → readBack (λ l. Building.Built) Building.Refused (buildingTold r) ≡ r
+unfolding readBack
+building-back Building.Built = refl
+building-back (Building.Refused r) = read-refused (λ l. Building.Built) Building.Refused r
+
+pub building-distinct : (a b : Building) → buildingTold a ≡ buildingTold b → a ≡ b
+building-distinct a b e = sym (building-back a) ∙ ap (readBack (λ l. Building.Built) Building.Refused) e ∙ building-back b
+
+abbrev enteredFrom : List ℕ → Entering
+enteredFrom l = Entering.Entered (record { number = getD l 0 0; stamp = getD l 1 0 })
+
+entering-back : (r : Entering) → readBack enteredFrom Entering.Refused (enteringTold r) ≡ r
+unfolding readBack
+entering-back (Entering.Entered s) = refl
+entering-back (Entering.Refused r) = read-refused enteredFrom Entering.Refused r
+
+pub entering-distinct : (a b : Entering) → enteringTold a ≡ enteringTold b → a ≡ b
+entering-distinct a b e = sym (entering-back a) ∙ ap (readBack enteredFrom Entering.Refused) e ∙ entering-back b
+
+abbrev partFrom : List ℕ → Listing
+partFrom l = Listing.Part (getD l 0 0) (getD l 1 0)
+
+listing-back : (r : Listing) → readBack partFrom Listing.Refused (listingTold r) ≡ r
+unfolding readBack
+listing-back (Listing.Part from to) = refl
+listing-back (Listing.Refused r) = read-refused partFrom Listing.Refused r
+
+pub listing-distinct : (a b : Listing) → listingTold a ≡ listingTold b → a ≡ b
+listing-distinct a b e = sym (listing-back a) ∙ ap (readBack partFrom Listing.Refused) e ∙ listing-back b
+
+-- ---- THEOREM: any two outcomes that a call's contract allows are equal, answer and memory
+
+pub build-determined : {w : List ℕ} {stamp ranking : ℕ} {t : Table} {r r′ : Building} {u u′ : Table}
+    → Build w stamp ranking t r u → Build w stamp ranking t r′ u′ → (r ≡ r′) × (u ≡ u′)
+build-determined {r = r} {r′ = r′} p q = (building-distinct r r′ (p .answer ∙ sym (q .answer)), p .memory ∙ sym (q .memory))
+
+pub enter-determined : {w : List ℕ} {t : Table} {number stamp : ℕ} {row : List ℕ} {r r′ : Entering} {u u′ : Table}
+    → Enter w t number stamp row r u → Enter w t number stamp row r′ u′ → (r ≡ r′) × (u ≡ u′)
+enter-determined {r = r} {r′ = r′} p q = (entering-distinct r r′ (p .answer ∙ sym (q .answer)), p .memory ∙ sym (q .memory))

@@ -1,0 +1,101 @@
+-- Entering in a table in shape, by each way through the code. Assumes nothing.
+use mathlib.Core.Path.{_≡_, refl, sym, ap, _∙_}
+use mathlib.Core.Bool.{Bool, true, false, cond}
+use mathlib.Core.List.{List}
+use Prim.Native.Nat.{ℕ, suc, _-_}
+use native.Mathlib.Omega.{arith}
+use lib.ListN.{take}
+use borrow.Author.Tests.{le-ltb, ne-eqb}
+use Rattle.theory.specs.States.{starts}
+use Rattle.lent.proofs.All.{all-intro}
+use Rattle.selector.specs.Tags.{Tags}
+use Rattle.selector.specs.Rows.{rowAt}
+use Rattle.selector.specs.Checks.{rowFits}
+use Rattle.sheet.specs.Shape.{sheetShape}
+use Rattle.table.specs.Tables.{table, selectorsOf, cursorsAt, stateAt, childAt, transitionsIn, subjectPlace}
+use Rattle.table.specs.Shape.{rootCursors, tableShape}
+use Rattle.table.specs.Entering.{cached, nextState, numberIn, lacksRoom, childOf, entered, kept}
+use Rattle.table.proofs.Same.{same-is}
+use Rattle.table.proofs.Shaped.{shaped}
+use Rattle.advance.specs.Advancing.{Advanced}
+use Rattle.advance.proofs.Advanced.{advanced-state}
+use Rattle.cached.specs.Fitting.{subjectsFit}
+use Rattle.settle.specs.Settling.{state, unsettled, Settles}
+use Rattle.settle.specs.declared.Settled.{Settled}
+use Rattle.settle.specs.declared.Settled.the-variants.{At, NoRoom}
+use Rattle.matcher.specs.Answers.{Enters}
+
+-- ---- what the shape brings
+
+module _ (w h s c m tr : List ℕ) (e : (sheetShape w ≡ true) × (tableShape w (table h s c m tr) ≡ true)) where
+  pub subjects-fit : subjectsFit tr (transitionsIn h) ≡ true
+  unfolding subjectsFit
+  subjects-fit =
+      let fine = shaped w (table h s c m tr) (e .1) .subjects in
+      all-intro (λ k. rowFits 16 tr (subjectPlace k)) (transitionsIn h) (λ k l. rw (le-ltb 16 _ (fine k l .classes), le-ltb 16 _ (fine k l .pseudos)))
+
+  pub root-there : rootCursors w s c ≡ true
+  unfolding rootCursors
+  root-there = same-is _ _ .1 (shaped w (table h s c m tr) (e .1) .root-cursors)
+
+-- ---- the next state settled: the lists are those that were worked out
+
+pub settled-next : {w parent top : List ℕ} {x : Tags} {next listed next′ listed′ : List ℕ} {n k : ℕ} → Advanced w parent top x next listed n k next′ listed′
+    → (h s c m h′ s′ c′ m′ : List ℕ) (p : ℕ) (r : Settled)
+    → rootCursors w s c ≡ true
+    → parent ≡ cursorsAt s c p
+    → top ≡ cursorsAt s c 0
+    → ((t : List ℕ) → Settles (table h s c m t) (state (take n next′) (take k listed′)) r (table h′ s′ c′ m′ t))
+    → (t : List ℕ)
+    → Settles (table h s c m t) (nextState w (table h s c m t) p x) r (table h′ s′ c′ m′ t)
+unfolding rootCursors
+settled-next {w} a h s c m h′ s′ c′ m′ p r q e f u t =
+    let g = advanced-state a (stateAt (table h s c m t) p) e (f ∙ same-is (cursorsAt s c 0) (starts 0 (selectorsOf w)) .0 q) in
+    rw g at (u t)
+
+-- ---- what is told where a state stands
+
+abbrev numberTold : Settled → ℕ
+numberTold (At k) = suc k
+numberTold NoRoom = 0
+
+pub told-at : (b : Bool) (n k : ℕ) → At k ≡ cond b NoRoom (At n) → (b ≡ false) × (k ≡ n)
+told-at true n k e = let q : suc k ≡ 0 = ap numberTold e in absurd (omega arith)
+told-at false n k e = let q : suc k ≡ suc n = ap numberTold e in (refl, omega arith)
+
+pub told-none : (b : Bool) (n : ℕ) → NoRoom ≡ cond b NoRoom (At n) → b ≡ true
+told-none true n e = refl
+told-none false n e = let q : 0 ≡ suc n = ap numberTold e in absurd (omega arith)
+
+-- ---- the ways out
+
+module _ (w h s c m tr row : List ℕ) (p link : ℕ) (e : link ≡ cached h s tr p (rowAt 16 row 0)) where
+  -- a cached transition
+  pub entered-cached : (link ≡ 0 → ⊥) → (child : ℕ) → child ≡ childAt tr (link - 1) → Enters w (table h s c m tr) p row (At child) (table h s c m tr)
+  unfolding lacksRoom childOf entered
+  entered-cached n child f = record { answer = rw (← e, ne-eqb link 0 n, f); memory = rw (← e, ne-eqb link 0 n) }
+
+  module _ (z : link ≡ 0) (r : Settled) (h′ s′ c′ m′ : List ℕ)
+      (u : (t : List ℕ) → Settles (table h s c m t) (nextState w (table h s c m t) p (rowAt 16 row 0)) r (table h′ s′ c′ m′ t)) where
+    lacks : lacksRoom w (table h s c m tr) p row ≡ unsettled (table h s c m tr) (nextState w (table h s c m tr) p (rowAt 16 row 0))
+    unfolding lacksRoom
+    lacks = rw (← e, z)
+
+    -- a state held or put, and the transition kept;
+    pub entered-new : (child : ℕ) → r ≡ At child → (h″ s″ t″ : List ℕ) → ((c m : List ℕ) → table h″ s″ c m t″ ≡ kept (table h′ s′ c m tr) p child row)
+        → Enters w (table h s c m tr) p row (At child) (table h″ s″ c′ m′ t″)
+    unfolding childOf entered
+    entered-new child f h″ s″ t″ k =
+        let t = table h s c m tr in
+        let x = nextState w t p (rowAt 16 row 0) in
+        let (o, q) = told-at (unsettled t x) (numberIn t x) child (sym f ∙ u tr .answer) in
+        let held = rw o at (u tr .memory) in
+        record { answer = rw (lacks, o, ← e, z, q); memory = rw (lacks, o, ← e, z, ← held, ← q) (k c′ m′) }
+
+    -- or none, and nothing written
+    pub entered-none : r ≡ NoRoom → Enters w (table h s c m tr) p row NoRoom (table h′ s′ c′ m′ tr)
+    entered-none f =
+        let t = table h s c m tr in
+        let x = nextState w t p (rowAt 16 row 0) in
+        let o = told-none (unsettled t x) (numberIn t x) (sym f ∙ u tr .answer) in
+        record { answer = rw (lacks, o); memory = rw (lacks, o) (rw o at (u tr .memory)) }

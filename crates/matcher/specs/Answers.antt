@@ -1,0 +1,52 @@
+-- What the calls on a table answer, and the memory with it. Assumes nothing.
+use mathlib.Core.Path.{_≡_}
+use mathlib.Core.Bool.{cond, not}
+use mathlib.Core.List.{List, [], _∷_}
+use Prim.Native.Nat.{ℕ}
+use lib.Dec.{eqb}
+use Rattle.lent.specs.Refusals.{told, answered, check, firstOf}
+use Rattle.selector.specs.Rows.{rowAt}
+use Rattle.selector.specs.Checks.{rowFits, tagsAscend}
+use Rattle.settle.specs.declared.Settled.{Settled}
+use Rattle.settle.specs.declared.Settled.the-variants.{At, NoRoom}
+use Rattle.table.specs.Tables.{Table}
+use Rattle.table.specs.Entering.{built, lacksRoom, childOf, entered}
+use Rattle.table.specs.Calls.{broken, notAState, buildVerdict, enterVerdict}
+use Rattle.matcher.specs.declared.Building.{Building}
+use Rattle.matcher.specs.declared.Entering.{Entering}
+use Rattle.matcher.specs.declared.Listing.{Listing}
+
+-- ---- the answers as numbers: 0 and what is told, or a refusal's own number
+
+abbrev pub buildingTold : Building → List ℕ
+buildingTold Building.Built = 0 ∷ []
+buildingTold (Building.Refused r) = told r
+
+abbrev pub enteringTold : Entering → List ℕ
+enteringTold (Entering.Entered s) = 0 ∷ s .number ∷ s .stamp ∷ []
+enteringTold (Entering.Refused r) = told r
+
+abbrev pub listingTold : Listing → List ℕ
+listingTold (Listing.Part from to) = 0 ∷ from ∷ to ∷ []
+listingTold (Listing.Refused r) = told r
+
+-- ---- answer and memory; a refused call changes no word
+
+pub record Build (w : List ℕ) (stamp ranking : ℕ) (t : Table) (r : Building) (t′ : Table) : Type 0 where
+  pub answer : buildingTold r ≡ answered (buildVerdict w ranking (t .states) (t .cursors)) (0 ∷ [])
+  pub memory : t′ ≡ cond (eqb (buildVerdict w ranking (t .states) (t .cursors)) 0) (built w stamp ranking t) t
+
+-- the child has its parent's stamp
+pub record Enter (w : List ℕ) (t : Table) (number stamp : ℕ) (row : List ℕ) (r : Entering) (t′ : Table) : Type 0 where
+  pub answer : enteringTold r ≡ answered (enterVerdict w t number stamp row) (0 ∷ childOf w t number row ∷ stamp ∷ [])
+  pub memory : t′ ≡ cond (eqb (enterVerdict w t number stamp row) 0) (entered w t number row) t
+
+-- ---- within: entering without the first four refusals, and these alone
+
+pub record Enters (w : List ℕ) (t : Table) (parent : ℕ) (row : List ℕ) (r : Settled) (t′ : Table) : Type 0 where
+  pub answer : r ≡ cond (lacksRoom w t parent row) NoRoom (At (childOf w t parent row))
+  pub memory : t′ ≡ cond (lacksRoom w t parent row) t (entered w t parent row)
+
+unfoldable pub frontVerdict : List ℕ → Table → ℕ → ℕ → List ℕ → ℕ
+frontVerdict w t number stamp row =
+    firstOf (check 11 (broken w t) ∷ check 4 (notAState (t .head) number stamp) ∷ check 2 (not (rowFits 16 row 0)) ∷ check 1 (not (tagsAscend (rowAt 16 row 0))) ∷ [])

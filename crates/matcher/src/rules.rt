@@ -1,0 +1,62 @@
+// The matched rules of a state: where they stand, and the list itself.
+use crate::Listing;
+use crate::MatchState;
+use crate::states::state_verdict;
+use lent::Refusal;
+use lent::lists::cell;
+use lent::lists::list_of;
+use lent::lists::part;
+use lent::lists::start_of;
+use table::layout;
+ghost use mathlib.Core.Path.{_≡_};
+ghost use mathlib.Core.Bool.{cond};
+ghost use mathlib.Core.List.{[], _∷_};
+ghost use lib.Dec.{eqb};
+ghost use Rattle.lent.specs.Pool.{startOf};
+ghost use Rattle.lent.specs.Refusals.{answered};
+ghost use Rattle.table.specs.Tables.{table, matchedEnds, matchedAt};
+ghost use Rattle.table.specs.Calls.{stateVerdict};
+ghost use Rattle.matcher.specs.Answers.{listingTold};
+
+// Where the state's matched rules stand in `matched`.
+pub fn matching_part(
+    sheet: &[u32],
+    head: &[u32; 8],
+    states: &[u32],
+    cursors: &[u32],
+    matched: &[u32],
+    transitions: &[u32],
+    state: MatchState,
+) -> Listing
+    ensures { λ r. ⌜ listingTold r ≡ answered (stateVerdict (now (sheet .entry)) (table (now (head .entry)) (now (states .entry)) (now (cursors .entry)) (now (matched .entry)) (now (transitions .entry))) (state .number) (state .stamp)) (0 ∷ startOf (matchedEnds (now (states .entry))) (state .number) ∷ matchedEnds (now (states .entry)) (state .number) ∷ []) ⌝ }
+{
+    let v = state_verdict(sheet, head, states, cursors, matched, transitions, state);
+    if v != 0 {
+        return Listing::Refused(Refusal::of(v));
+    }
+    let ends = layout::MATCHED_ENDS;
+    Listing::Part(
+        start_of(states, ends, state.number),
+        cell(states, ends, state.number),
+    )
+}
+
+// `Matcher::matching_rules`: the part of `matched` that holds them; none where the state is refused.
+pub fn matching_rules<'a>(
+    sheet: &[u32],
+    head: &[u32; 8],
+    states: &[u32],
+    cursors: &[u32],
+    matched: &'a [u32],
+    transitions: &[u32],
+    state: MatchState,
+) -> &'a [u32]
+    ensures { λ r. ⌜ now r ≡ cond (eqb (stateVerdict (now (sheet .entry)) (table (now (head .entry)) (now (states .entry)) (now (cursors .entry)) (now (matched .entry)) (now (transitions .entry))) (state .number) (state .stamp)) 0) (matchedAt (now (states .entry)) (now (matched .entry)) (state .number)) [] ⌝ }
+{
+    let v = state_verdict(sheet, head, states, cursors, matched, transitions, state);
+    if v != 0 {
+        return part(matched, 0, 0);
+    }
+    let ends = layout::MATCHED_ENDS;
+    list_of(states, ends, matched, state.number)
+}
