@@ -24,7 +24,8 @@ use Rattle.covered.proofs.Accepted.{Proper, row-tags, enter-accepted, e
 use Rattle.covered.proofs.Entering.{child-there, child-has-room}
 use Rattle.covered.proofs.Reached.{covered-sound, enters-right}
 
-equal-proper : (x y : SelectorInputs) → inputsTags x ≡ inputsTags y → Proper x → Proper y
+-- a subject with the same tags and ids as a proper one is proper
+pub equal-proper : (x y : SelectorInputs) → inputsTags x ≡ inputsTags y → Proper x → Proper y
 unfolding inputsTags
 equal-proper x y same p =
     let classes : length (inputsTags x .classes) ≡ length (inputsTags y .classes) = ap (λ (z : Tags). length (z .classes)) same in

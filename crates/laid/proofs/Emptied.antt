@@ -26,7 +26,7 @@ unfolding emptied
 emptied-others w i h = sets-after w 0 (replicate 7 0) i h
 
 module _ (w : List ℕ) (room : Layout.SHEET-WORDS ≤ length w) where
-  zero-count : (i : ℕ) → i < 7 → getD (emptied w) i 0 ≡ 0
+  pub zero-count : (i : ℕ) → i < 7 → getD (emptied w) i 0 ≡ 0
   unfolding emptied
   zero-count i h =
       let z : i - 0 ≡ i = omega arith in

@@ -1,0 +1,60 @@
+-- Entering subject after subject, each under the child before: where that ends is reached by their path. Assumes nothing.
+use mathlib.Core.Path.{_≡_, refl, sym, ap, _∙_, subst}
+use mathlib.Core.Logic.{inl, inr}
+use mathlib.Core.List.{List, [], _∷_, _++_, map, map-append, append-nil, List·Memᴰ·head, List·Memᴰ·tail, List·Memᴰ·cases-cons, List·Memᴰ·not-nil, List·Memᴰ·eq-of-singleton}
+use Prim.Native.Nat.{ℕ}
+use lib.ListN.{length, getD, drop, replicate}
+use lib.Seq.{append-snoc}
+use Rattle.theory.specs.Lists.{_∈_}
+use Rattle.theory.proofs.Lists.{append-in}
+use Rattle.selector.specs.Tags.{Tags}
+use Rattle.typed.specs.declared.SelectorInputs.{SelectorInputs}
+use Rattle.typed.specs.Typed.{inputsTags, inputsRow}
+use Rattle.table.specs.Tables.{Table}
+use Rattle.table.specs.Entering.{entered, childOf}
+use Rattle.covered.specs.Covered.{Enters, Reached}
+use Rattle.covered.specs.Covered.Reached.{root, child, later}
+use Rattle.covered.specs.Rooms.{verdictsAlong}
+use Rattle.covered.proofs.Accepted.{Proper, enter-accepted}
+use Rattle.covered.proofs.Promises.{equal-proper}
+
+-- the table after all of them, and the last child
+unfoldable pub tableAlong : List ℕ → Table → ℕ → List SelectorInputs → Table
+tableAlong w t number [] = t
+tableAlong w t number (x ∷ xs) = tableAlong w (entered w t number (inputsRow x)) (childOf w t number (inputsRow x)) xs
+
+unfoldable pub numberAlong : List ℕ → Table → ℕ → List SelectorInputs → ℕ
+numberAlong w t number [] = number
+numberAlong w t number (x ∷ xs) = numberAlong w (entered w t number (inputsRow x)) (childOf w t number (inputsRow x)) xs
+
+map-in : {A B : Type 0} (f : A → B) (l : List A) (x : A) → x ∈ l → f x ∈ map f l
+map-in f [] x m = absurd (List·Memᴰ·not-nil m)
+map-in f (a ∷ l) x m = elim (List·Memᴰ·cases-cons m) [ inl e ↦ List·Memᴰ·head (ap f e) | inr i ↦ List·Memᴰ·tail (map-in f l x i) ]
+
+module _ {w : List ℕ} where
+  pub along-reached : (xs : List SelectorInputs) {t : Table} {number stamp : ℕ} {path : List Tags} → Reached w t number stamp path → verdictsAlong w t number stamp xs ≡ replicate (length xs) 0
+      → Reached w (tableAlong w t number xs) (numberAlong w t number xs) stamp (path ++ map inputsTags xs)
+  unfolding tableAlong numberAlong verdictsAlong
+  along-reached [] {path = path} r e = rw (append-nil path) r
+  along-reached (x ∷ xs) {t = t} {number = number} {stamp = stamp} {path = path} r e =
+      let v : Enters w t number stamp x = ap (λ (l : List ℕ). getD l 0 0) e in
+      let step = along-reached xs (child r x v) (ap (drop 1) e) in
+      subst (Reached w (tableAlong w (entered w t number (inputsRow x)) (childOf w t number (inputsRow x)) xs) (numberAlong w (entered w t number (inputsRow x)) (childOf w t number (inputsRow x)) xs) stamp) (append-snoc path (inputsTags x) (map inputsTags xs)) step
+
+  -- each element of a path that reached a state is that of a subject with counts and ids in order
+  reached-subject : {t : Table} {number stamp : ℕ} {path : List Tags} → Reached w t number stamp path → (z : Tags) → z ∈ path → (x : SelectorInputs) × Proper x × (inputsTags x ≡ z)
+  reached-subject (root t stamp ranking b) z m = absurd (List·Memᴰ·not-nil m)
+  reached-subject (child {t = t} {number = number} {stamp = stamp} {path = path} r x v) z m = elim (append-in path (inputsTags x ∷ []) z .0 m) [
+    | inl i ↦ reached-subject r z i
+    | inr i ↦ (x, enter-accepted w t number stamp x v .proper, sym (List·Memᴰ·eq-of-singleton i))
+  ]
+  reached-subject (later r number stamp x v) z m = reached-subject r z m
+
+  pub reached-proper : {t : Table} {number stamp : ℕ} (xs : List SelectorInputs) → Reached w t number stamp (map inputsTags xs) → (x : SelectorInputs) → x ∈ xs → Proper x
+  reached-proper xs r x m = let (y, p, e) = reached-subject r (inputsTags x) (map-in inputsTags xs x m) in equal-proper y x e p
+
+  -- such a path is that of subjects
+  pub reached-subjects : {t : Table} {number stamp : ℕ} {path : List Tags} → Reached w t number stamp path → (xs : List SelectorInputs) × (path ≡ map inputsTags xs)
+  reached-subjects (root t stamp ranking b) = ([], refl)
+  reached-subjects (child r x v) = let (xs, e) = reached-subjects r in (xs ++ x ∷ [], ap (λ (l : List Tags). l ++ inputsTags x ∷ []) e ∙ sym (map-append inputsTags xs (x ∷ [])))
+  reached-subjects (later r number stamp x v) = reached-subjects r

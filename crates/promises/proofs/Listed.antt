@@ -1,0 +1,147 @@
+-- Demand 3, its first half: which rules a state lists, that a fresh table lists the same, and what accepted calls leave. Assumes nothing.
+-- `Covered w t`: t is "a table last built of it and since written only by accepted calls given it, in any order"; a refused call writes nothing (Calls.antt).
+-- `Reached w t number stamp path`: t is such a table, and these are the number and stamp of "a state reached since from the root by a path", with
+-- any calls in between; "the path may be of any length".
+-- `w` is the words of the sheet, the same at every call: "unwritten since". That it was "made by accepted pushes" is asked only where build has to
+-- accept it: any sheet that build accepts will do.
+use mathlib.Core.Path.{_≡_, sym, _∙_}
+use mathlib.Core.Bool.{false}
+use mathlib.Core.Logic.{_↔_, _⊎_, inl, inr}
+use mathlib.Core.List.{List, map}
+use Prim.Native.Nat.{ℕ, _+_, _≤_, _<_}
+use native.Mathlib.Omega.{arith}
+use lib.ListN.{length, replicate}
+use Rattle.theory.specs.Lists.{_∈_, Ascending, select}
+use Rattle.theory.specs.Paths.{FitsTail}
+use Rattle.theory.specs.States.{rule, run}
+use Rattle.theory.proofs.Decide.{fitsTail}
+use Rattle.lent.specs.Pool.{startOf, listAt}
+use Rattle.selector.specs.Tags.{Tags, stepMatches}
+use Rattle.typed.specs.declared.SelectorInputs.{SelectorInputs}
+use Rattle.typed.specs.Typed.{inputsTags, inputsRow}
+use Rattle.sheet.specs.Layout.{rulesIn}
+use Rattle.made.specs.Made.{Made}
+use Rattle.made.proofs.Promises.{made-shaped}
+use Rattle.table.specs.Tables.{Table, selectorsOf, statesIn, matchedEnds, matchedAt, stateAt}
+use Rattle.table.specs.Entering.{built, entered, childOf}
+use Rattle.table.specs.Calls.{broken}
+use Rattle.covered.specs.Covered.{Builds, Enters, Covered, Reached}
+use Rattle.covered.specs.Covered.Reached.{root}
+use Rattle.covered.specs.Rooms.{Roomy, verdictsAlong}
+use Rattle.covered.proofs.Known.{below}
+use Rattle.covered.proofs.Keeps.{states-stay}
+use Rattle.covered.proofs.Accepted.{Proper}
+use Rattle.covered.proofs.Reached as States
+use Rattle.covered.proofs.Promises.{After}
+use Rattle.covered.proofs.Promises as Left
+use Rattle.covered.proofs.Rooms.{rooms-build, rooms-suffice}
+use Rattle.promises.proofs.Along.{tableAlong, numberAlong, along-reached, reached-proper}
+
+module _ {w : List ℕ} where
+  -- ---- "for a state reached since from the root by a path of one or more elements"; the root, reached by none, lists nothing
+
+  module _ {t : Table} {number stamp : ℕ} {path : List Tags} (r : Reached w t number stamp path) where
+    -- "a rule is listed exactly if its selector isn't empty and fits some tail of that path, end to end"
+    pub listed-exactly : (k : ℕ) → (k ∈ stateAt t number .matched) ↔ ((0 < length (rule (selectorsOf w) k)) × FitsTail stepMatches (rule (selectorsOf w) k) path)
+    listed-exactly = States.listed-fits w r
+
+    -- "the list ascends, each rule once"
+    pub listed-ascending : Ascending (stateAt t number .matched)
+    listed-ascending = States.listed-ascending w r
+
+    -- so sheet and path determine the list: of the sheet's rules those that pass the test, in order
+    pub listed-is : stateAt t number .matched ≡ select (λ k. fitsTail stepMatches (rule (selectorsOf w) k) path) (rulesIn w)
+    listed-is = States.listed-is w r
+
+  -- states of one table that have the same cursors and rules are one state
+  pub equal-lists-one-state : {t : Table} {a b stamp stamp′ : ℕ} {path path′ : List Tags} → Reached w t a stamp path → Reached w t b stamp′ path′
+      → run stepMatches (selectorsOf w) path ≡ run stepMatches (selectorsOf w) path′ → a ≡ b
+  equal-lists-one-state {a = a} {b = b} p q e =
+      let (l, _, f) = States.reached-is w p in
+      let (m, _, g) = States.reached-is w q in
+      States.covered-sound w (States.reached-covered w p) .known .distinct a b l m (f ∙ e ∙ sym g)
+
+  -- ---- "A fresh table of the same sheet and ranking, with room, gives that path the same rules, whatever the numbers"
+
+  -- in any two tables, whatever ranking, stamp, rooms and other calls; the cursors are the same as well
+  pub same-path-same-lists : {t t′ : Table} {number number′ stamp stamp′ : ℕ} {path : List Tags} → Reached w t number stamp path → Reached w t′ number′ stamp′ path
+      → stateAt t number ≡ stateAt t′ number′
+  same-path-same-lists = States.fresh-same w
+
+  -- the subjects of that path (`reached-subjects`: each path that reached a state is one of subjects), entered into a fresh table
+  module _ (xs : List SelectorInputs) {t : Table} {number stamp : ℕ} (r : Reached w t number stamp (map inputsTags xs)) where
+    module _ (fresh : Table) (eight : length (fresh .head) ≡ 8) (room : Roomy w (map inputsTags xs) fresh) (ranking : ℕ) (ranks : ranking ≤ 1) (stamp′ : ℕ) where
+      -- build accepts the fresh table, every entering of the path is accepted,
+      pub fresh-builds : Builds w ranking fresh
+      fresh-builds = rooms-build w xs fresh room (States.covered-sheet w (States.reached-covered w r)) ranking ranks eight
+
+      pub fresh-enters : verdictsAlong w (built w stamp′ ranking fresh) 0 stamp′ xs ≡ replicate (length xs) 0
+      fresh-enters = rooms-suffice w xs fresh room stamp′ ranking fresh-builds (reached-proper xs r)
+
+      -- and the last child has the same lists as the state reached before
+      pub fresh-same-rules : stateAt (tableAlong w (built w stamp′ ranking fresh) 0 xs) (numberAlong w (built w stamp′ ranking fresh) 0 xs) ≡ stateAt t number
+      fresh-same-rules = same-path-same-lists (along-reached xs (root fresh stamp′ ranking fresh-builds) fresh-enters) r
+
+  -- ---- ""With room": rooms, from the sheet and the path, that suffice; every entering of the path is then accepted"
+
+  -- `Roomy`: the different states along the path, the root among them, are at most 512, and there is room for them, their cursors and their rules;
+  -- transitions need none
+  -- `Proper`: the subject's counts are within their sizes, and its ids ascend
+  module _ (made : Made w) (xs : List SelectorInputs) (t : Table) (eight : length (t .head) ≡ 8) (room : Roomy w (map inputsTags xs) t) (ranking : ℕ) (ranks : ranking ≤ 1) where
+    pub room-builds : Builds w ranking t
+    room-builds = rooms-build w xs t room (made-shaped made) ranking ranks eight
+
+    pub room-suffices : (stamp : ℕ) → ((x : SelectorInputs) → x ∈ xs → Proper x) → verdictsAlong w (built w stamp ranking t) 0 stamp xs ≡ replicate (length xs) 0
+    room-suffices stamp = rooms-suffice w xs t room stamp ranking room-builds
+
+    -- so that the last child is reached by the path: what is said of reached states is said of these
+    pub room-reaches : (stamp : ℕ) → ((x : SelectorInputs) → x ∈ xs → Proper x)
+        → Reached w (tableAlong w (built w stamp ranking t) 0 xs) (numberAlong w (built w stamp ranking t) 0 xs) stamp (map inputsTags xs)
+    room-reaches stamp p = along-reached xs (root t stamp ranking room-builds) (room-suffices stamp p)
+
+  -- ---- "an accepted call keeps every earlier state's lists; the number of states never falls"; build apart, which begins anew
+
+  -- `After w t t′`: from t to t′ by accepted enterings, any number of them
+  module _ {t t′ : Table} (c : Covered w t) (a : After w t t′) where
+    pub states-never-fall : statesIn (t .head) ≤ statesIn (t′ .head)
+    states-never-fall = Left.states-more w c a
+
+    pub states-kept : (k : ℕ) → k < statesIn (t .head) → stateAt t′ k ≡ stateAt t k
+    states-kept = Left.state-kept w c a
+
+    -- a matched list stays where it was handed out: from, to, and the numbers there
+    pub part-kept : (k : ℕ) → k < statesIn (t .head)
+        → (startOf (matchedEnds (t′ .states)) k ≡ startOf (matchedEnds (t .states)) k)
+        × (matchedEnds (t′ .states) k ≡ matchedEnds (t .states) k)
+        × (listAt (matchedEnds (t .states)) (t′ .matched) k ≡ matchedAt (t .states) (t .matched) k)
+    part-kept k h = (Left.from-kept w c a k h, Left.to-kept w c a k h, Left.part-kept w c a k h)
+
+  -- ---- "two entries of equal subjects from one parent give one child"
+
+  -- x is entered, then anything else, then y: that is accepted, room or not, and has the same child
+  module _ {t : Table} (c : Covered w t) (number stamp : ℕ) (x : SelectorInputs) (v : Enters w t number stamp x) where
+    pub equal-subjects-one-child : (y : SelectorInputs) → inputsTags x ≡ inputsTags y → {t′ : Table} → After w (entered w t number (inputsRow x)) t′
+        → Enters w t′ number stamp y × (childOf w t′ number (inputsRow y) ≡ childOf w t number (inputsRow x))
+    equal-subjects-one-child y same a = (Left.equal-enters w c number stamp x v y same a, Left.equal-child w c number stamp x v y same a)
+
+    -- ---- 01, "States": "An equal state already held is reused; otherwise it gets the next number."
+
+    pub next-number : ((childOf w t number (inputsRow x) < statesIn (t .head)) × (statesIn (entered w t number (inputsRow x) .head) ≡ statesIn (t .head)))
+        ⊎ ((childOf w t number (inputsRow x) ≡ statesIn (t .head)) × (statesIn (entered w t number (inputsRow x) .head) ≡ statesIn (t .head) + 1))
+    next-number =
+        let k = childOf w t number (inputsRow x) in
+        let s = States.covered-sound w c in
+        let g = States.enters-right w s number stamp x v in
+        elim (g .grows) [
+          | inl q ↦ inl (omega (arith, g .leads .child), q)
+          | inr (q, new) ↦ elim (below k (statesIn (t .head)) (omega (arith, g .leads .child))) [
+            | inl l ↦ absurd (new k l (sym (states-stay w s (g .kept .stay) k l) ∙ Left.child-is w c number stamp x v))
+            | inr e ↦ inr (e, q)
+          ]
+        ]
+
+  -- ---- such a table with its sheet is never refused by 11
+
+  pub covered-in-shape : {t : Table} → Covered w t → broken w t ≡ false
+  unfolding broken
+  covered-in-shape c = rw (States.covered-sheet w c, States.covered-shaped w c)
