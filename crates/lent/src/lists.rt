@@ -1,12 +1,10 @@
 // Lists end to end over a pool: list k runs from end k-1 (0 for the first) to end k. The ends stand in a column of lent words.
-use crate::words::copy_into;
-use crate::words::put;
 use crate::words::wide;
 use crate::words::word;
 ghost use mathlib.Core.Path.{_≡_};
 ghost use Prim.Native.Nat.{_-_};
 ghost use lib.ListN.{take, drop};
-ghost use Rattle.lent.specs.Pool.{addressOf, endsIn, startOf, listAt, Appended};
+ghost use Rattle.lent.specs.Pool.{addressOf, endsIn, startOf, listAt};
 
 // Where a column stands: its first word, and how many words lie from one row to the next.
 pub struct Column {
@@ -81,28 +79,4 @@ pub fn list_of<'a>(words: &[u32], column: Column, pool: &'a [u32], k: u32) -> &'
     let from = start_of(words, column, k);
     let to = cell(words, column, k);
     part(pool, wide(from), wide(to))
-}
-
-// `list` becomes list k, right after list k-1, and nothing is written where it has no room; whether it had.
-pub fn append(words: &mut [u32], column: Column, pool: &mut [u32], k: u32, list: &[u32]) -> bool
-    ensures { λ r. ⌜ Appended (now (words .entry)) (column .base) (column .stride) (now (pool .entry)) k (now (list .entry)) r (now (words .exit)) (now (pool .exit)) ⌝ }
-{
-    let from = wide(start_of(words, column, k));
-    let at = address(column, k);
-    if words.len() <= at {
-        return false;
-    }
-    if pool.len() < from {
-        return false;
-    }
-    if pool.len() - from < list.len() {
-        return false;
-    }
-    let to = from + list.len();
-    if 4294967295 < to {
-        return false;
-    }
-    copy_into(pool, from, list);
-    put(words, at, to as u32);
-    true
 }
