@@ -101,8 +101,3 @@ pub list-kept : (ends ends′ : ℕ → ℕ) (pool pool′ : List ℕ) (j : ℕ)
 unfolding listAt
 list-kept ends ends′ pool pool′ j p q r =
     rw (p, q, part-below (startOf ends j) (ends j) pool′, part-below (startOf ends j) (ends j) pool, r)
-
-lists-kept : (ends ends′ : ℕ → ℕ) (pool pool′ : List ℕ) (n : ℕ) → ((j : ℕ) → j < n → listAt ends′ pool′ j ≡ listAt ends pool j) → lists ends′ pool′ n ≡ lists ends pool n
-unfolding lists
-lists-kept ends ends′ pool pool′ zero h = refl
-lists-kept ends ends′ pool pool′ (suc n) h = rw (lists-kept ends ends′ pool pool′ n (λ j l. h j (omega arith)), h n (omega arith))
