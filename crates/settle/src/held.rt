@@ -1,4 +1,4 @@
-// For callers that hold the table to its shape already.
+// What entering writes. Nothing is required of the table: a caller that did not test its shape gets what its words say.
 use crate::Settled;
 use cached::held::leads;
 use lent::lists::address;

@@ -12,11 +12,12 @@ use Rattle.sheet.specs.Layout.{rulesIn}
 use Rattle.sheet.specs.Shape.{endToEnd, endsAt}
 use Rattle.table.specs.Tables
 
--- ---- "counts past the room or the sizes"
+-- ---- "a root other than build makes": there is one
 
--- there is a root,
 unfoldable pub rootThere : List ℕ → Bool
 rootThere head = leb 1 (Tables.statesIn head)
+
+-- ---- "counts past the room or the sizes"
 
 -- "States (at most 512)
 unfoldable pub statesFit : List ℕ → Bool
@@ -82,7 +83,7 @@ parentExists head transitions k = ltb (Tables.parentAt transitions k) (Tables.st
 unfoldable pub childExists : List ℕ → List ℕ → ℕ → Bool
 childExists head transitions k = ltb (Tables.childAt transitions k) (Tables.statesIn head)
 
--- ---- "a root other than build makes"
+-- ---- "a root other than build makes": its lists
 
 -- two lists are the same
 abbrev pub same : List ℕ → List ℕ → Bool
