@@ -1,15 +1,14 @@
 // The lines of one item.
-use crate::item::MOST;
-use crate::item::body;
 use crate::look;
 use crate::push;
-use crate::say;
 use crate::tell;
+use items::MOST;
+use items::body;
+use items::room;
+use items::say;
 use lent::words::put;
 use lent::words::wide;
 use lent::words::word;
-ghost use Prim.Native.Nat.{_≤_};
-ghost use lib.ListN.{length};
 
 // What is read.
 fn reading(op: u32, body: &[u32], sheet: &[u32], out: &mut [u8], at: usize) -> usize {
@@ -38,14 +37,6 @@ fn on_sheet(
         6 => push::store(body, sheet, at),
         _ => reading(op, body, sheet, out, at),
     }
-}
-
-// How many words of a sheet are lent.
-fn room(rooms: &[u32], which: usize, most: usize) -> usize
-    ensures { λ r. ⌜ r ≤ most ⌝ }
-{
-    let n = wide(word(rooms, which));
-    if most < n { most } else { n }
 }
 
 // The room that the first item of a sheet says.

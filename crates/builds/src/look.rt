@@ -1,11 +1,11 @@
 // The look-ups of a style.
-use crate::item::MOST;
 use crate::lists::Lists;
 use crate::lists::half;
 use crate::lists::halves;
 use crate::lists::list;
-use crate::say;
 use crate::tell::entry_of;
+use items::MOST;
+use items::say;
 use lent::lists::part;
 use lent::words::put;
 use lent::words::wide;

@@ -1,15 +1,15 @@
 // Answers cases of sheets from standard input, in the words of the judge (oracle/), so that the two can be compared.
 // The input is items of little-endian words: what is to be done, how many words follow, and those words. Two sheets stand ready.
-use libc::STDIN_FILENO;
+use screen::ends;
+use screen::held::fill;
+use screen::held::shift;
 ghost use Prim.Native.Nat.{_≤_};
 ghost use lib.ListN.{length};
 
 mod answer;
-mod item;
 mod lists;
 mod look;
 mod push;
-mod say;
 mod tell;
 
 // Answers the items that are whole, and writes the answers out; where the first other begins.
@@ -25,7 +25,7 @@ fn answer_whole(
     let mut used = 0;
     let mut at = 0;
     while at < input.len() {
-        let end = item::end(input, at);
+        let end = items::held::end(input, at);
         if end <= at {
             screen::send(out, used, 0);
             return at;
@@ -52,48 +52,6 @@ fn answer_first(
     answer_whole(&input[..n], first, second, rooms, out)
 }
 
-fn line(out: &mut [u8], words: &[u8]) {
-    let used = lines::text(out, 0, words);
-    screen::send(out, used, 0);
-}
-
-// Whether nothing more is to be read after `rest`, which holds no whole item. Input that does not end between two items gets a last line.
-fn ends(rest: &[u8], at_end: bool, out: &mut [u8]) -> bool {
-    if item::is_too_long(rest) {
-        line(out, b"too long\n");
-        return true;
-    }
-    if !at_end {
-        return false;
-    }
-    if 0 < rest.len() {
-        line(out, b"cut short\n");
-    }
-    true
-}
-
-// Moves the bytes from `at` on to the front; how many they are.
-fn shift(input: &mut [u8], at: usize) -> usize
-    requires { ⌜ at ≤ length (now input) ⌝ }
-    ensures { λ r. ⌜ r ≤ length (now (input .entry)) ⌝ }
-{
-    let left = input.len() - at;
-    let mut i = 0;
-    while i < left {
-        input[i] = input[at + i];
-        i += 1;
-    }
-    left
-}
-
-// Reads on after the `have` bytes at hand, until the buffer is full or the input ends; how many are at hand then.
-fn fill(input: &mut [u8], have: usize) -> usize
-    requires { ⌜ have ≤ length (now input) ⌝ }
-    ensures { λ r. ⌜ r ≤ length (now (input .entry)) ⌝ }
-{
-    have + io::read_full(STDIN_FILENO, &mut input[have..])
-}
-
 // Reads on, and answers what is whole then; how many bytes are left at hand, or the buffer's size where the program is to end.
 fn turn(
     input: &mut [u8],
@@ -109,7 +67,8 @@ fn turn(
     let size = input.len();
     let n = fill(input, have);
     let at = answer_first(input, n, first, second, rooms, out);
-    if ends(&input[at..n], n < size, out) {
+    let rest = &input[at..n];
+    if ends(rest, items::is_too_long(rest), n < size, out) {
         return size;
     }
     shift(input, at)

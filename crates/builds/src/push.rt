@@ -1,14 +1,14 @@
 // What is done to a sheet.
-use crate::item::MOST;
 use crate::lists::Lists;
 use crate::lists::halves;
 use crate::lists::list;
-use crate::say;
 use builder::Pushing;
 use builder::push_cascade;
 use builder::push_rule;
 use builder::push_rules;
 use builder::push_style;
+use items::MOST;
+use items::say;
 use lent::words::put;
 use lent::words::wide;
 use lent::words::word;

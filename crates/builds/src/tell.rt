@@ -1,6 +1,6 @@
 // What is read out of a sheet.
 use crate::lists::end;
-use crate::say;
+use items::say;
 use lent::lists::part;
 use lent::words::word;
 use lines::text;

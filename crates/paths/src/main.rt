@@ -1,7 +1,9 @@
 // Answers cases about selectors and paths from standard input, in the words of the judge (oracle/), so that the two can be compared.
 // A case is three sections of little-endian words, and each section a count, a number, and as many rows as the number says:
 // the steps' rows, the combinators' words, the subjects' rows. A count is what is given, a number is what is lent.
-use libc::STDIN_FILENO;
+use screen::ends;
+use screen::held::fill;
+use screen::held::shift;
 ghost use Prim.Native.Nat.{_≤_};
 ghost use lib.ListN.{length};
 
@@ -46,48 +48,6 @@ fn answer_first(input: &[u8], n: usize, out: &mut [u8]) -> usize
     answer_whole(&input[..n], out)
 }
 
-fn line(out: &mut [u8], words: &[u8]) {
-    let used = lines::text(out, 0, words);
-    screen::send(out, used, 0);
-}
-
-// Whether nothing more is to be read after `rest`, which holds no whole case. Input that does not end between two cases gets a last line.
-fn ends(rest: &[u8], at_end: bool, out: &mut [u8]) -> bool {
-    if section::is_too_long(rest) {
-        line(out, b"too long\n");
-        return true;
-    }
-    if !at_end {
-        return false;
-    }
-    if 0 < rest.len() {
-        line(out, b"cut short\n");
-    }
-    true
-}
-
-// Moves the bytes from `at` on to the front; how many they are.
-fn shift(input: &mut [u8], at: usize) -> usize
-    requires { ⌜ at ≤ length (now input) ⌝ }
-    ensures { λ r. ⌜ r ≤ length (now (input .entry)) ⌝ }
-{
-    let left = input.len() - at;
-    let mut i = 0;
-    while i < left {
-        input[i] = input[at + i];
-        i += 1;
-    }
-    left
-}
-
-// Reads on after the `have` bytes at hand, until the buffer is full or the input ends; how many are at hand then.
-fn fill(input: &mut [u8], have: usize) -> usize
-    requires { ⌜ have ≤ length (now input) ⌝ }
-    ensures { λ r. ⌜ r ≤ length (now (input .entry)) ⌝ }
-{
-    have + io::read_full(STDIN_FILENO, &mut input[have..])
-}
-
 // Reads on, and answers what is whole then; how many bytes are left at hand, or the buffer's size where the program is to end.
 fn turn(input: &mut [u8], have: usize, out: &mut [u8]) -> usize
     requires { ⌜ have ≤ length (now input) ⌝ }
@@ -96,7 +56,8 @@ fn turn(input: &mut [u8], have: usize, out: &mut [u8]) -> usize
     let size = input.len();
     let n = fill(input, have);
     let at = answer_first(input, n, out);
-    if ends(&input[at..n], n < size, out) {
+    let rest = &input[at..n];
+    if ends(rest, section::is_too_long(rest), n < size, out) {
         return size;
     }
     shift(input, at)

@@ -1,9 +1,11 @@
-// Lines laid into a buffer, and written out.
+// Lines laid into a buffer, and written out; input read in pieces.
 use libc::STDOUT_FILENO;
 ghost use mathlib.Core.Path.{_≡_};
 ghost use mathlib.Core.Bool.{cond};
 ghost use lib.Dec.{leb};
 ghost use Rattle.screen.specs.Labelled.{Labelled};
+
+pub mod held;
 
 // A label, and a number.
 pub fn labelled(out: &mut [u8], at: usize, label: &[u8], n: u64) -> usize
@@ -24,4 +26,25 @@ pub fn send(out: &[u8], used: usize, least: usize) -> usize
         io::write_all(STDOUT_FILENO, &out[..used]);
     }
     0
+}
+
+// The words alone.
+pub fn line(out: &mut [u8], words: &[u8]) {
+    let used = lines::text(out, 0, words);
+    send(out, used, 0);
+}
+
+// Whether nothing more is to be read after `rest`, which holds nothing whole. Input that does not end between two whole things gets a last line.
+pub fn ends(rest: &[u8], is_too_long: bool, at_end: bool, out: &mut [u8]) -> bool {
+    if is_too_long {
+        line(out, b"too long\n");
+        return true;
+    }
+    if !at_end {
+        return false;
+    }
+    if 0 < rest.len() {
+        line(out, b"cut short\n");
+    }
+    true
 }

@@ -1,11 +1,11 @@
--- `paths::shift` meets its contract. Assumes nothing.
+-- `screen::held::shift` meets its contract. Assumes nothing.
 use Prim.Native.Nat.{_≤_, _-_, _+_}
 use mathlib.Core.Path.{_≡_}
 use native.Mathlib.Omega.{arith}
 use lib.ListN.{length, length-set}
 use borrow.Author.Needs.{needs}
-use Rattle.paths.proofs.shift.Statement.{statement}
-use Rattle.paths.proofs.shift.Tie as tie
+use Rattle.screen.proofs.held.shift.Statement.{statement}
+use Rattle.screen.proofs.held.shift.Tie as tie
 
 abbrev Inv-loop : tie.InvT-loop
 Inv-loop input₀ at left i₀ input i = (i ≤ left) × (left + at ≡ length input₀) × (length input ≡ length input₀)

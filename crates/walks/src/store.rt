@@ -1,0 +1,40 @@
+// What is stored. No line.
+use lent::lists::rest;
+use lent::words::copy_into;
+use lent::words::wide;
+use lent::words::word;
+
+// The words after word 0, from the address on that it says.
+fn words_after(body: &[u32], piece: &mut [u32]) {
+    copy_into(piece, wide(word(body, 0)), rest(body, 1));
+}
+
+pub(crate) fn sheet(body: &[u32], sheet: &mut [u32], at: usize) -> usize {
+    words_after(body, sheet);
+    at
+}
+
+pub(crate) fn rooms(body: &[u32], rooms: &mut [u32], at: usize) -> usize {
+    copy_into(rooms, 0, body);
+    at
+}
+
+// In the piece that word 0 names.
+pub(crate) fn piece(
+    body: &[u32],
+    head: &mut [u32],
+    states: &mut [u32],
+    cursors: &mut [u32],
+    matched: &mut [u32],
+    transitions: &mut [u32],
+    at: usize,
+) -> usize {
+    match word(body, 0) % 5 {
+        0 => words_after(rest(body, 1), head),
+        1 => words_after(rest(body, 1), states),
+        2 => words_after(rest(body, 1), cursors),
+        3 => words_after(rest(body, 1), matched),
+        _ => words_after(rest(body, 1), transitions),
+    }
+    at
+}
