@@ -1,18 +1,24 @@
 -- Whether a state is one of a table, by each way through the code, and what is answered then. Assumes nothing.
 use mathlib.Core.Path.{_≡_, refl, sym, _∙_}
-use mathlib.Core.Bool.{Bool, true, false, not, cond}
+use mathlib.Core.Bool.{Bool, true, false, not}
 use mathlib.Core.List.{List, [], _∷_}
 use mathlib.Core.Logic.{inl, inr}
-use Prim.Native.Nat.{ℕ, _-_}
-use lib.ListN.{take, drop}
+use Prim.Native.Nat.{ℕ, _+_, _-_, _*_, _≤_}
+use native.Mathlib.Omega.{arith}
+use lib.ListN.{length, take, drop}
 use lib.Dec.{leb, eqb}
-use borrow.Author.Tests.{lt-ltb, le-ltb, le-leb, lt-leb, eq-eqb, ne-eqb, not-true, not-false}
-use Rattle.theory.proofs.Lists.{le-or-lt}
+use denote.Ref.{RefT}
+use borrow.Author.Tests.{lt-ltb, le-ltb, le-leb, lt-leb, eq-eqb, ne-eqb, ltb-true, not-true, not-false}
+use Rattle.theory.proofs.Lists.{le-or-lt, and-right, or-second}
+use Rattle.lent.specs.Pool.{startOf, listAt}
 use Rattle.lent.specs.Refusals.{told, refusalOf, answered, firstOf}
 use Rattle.lent.specs.declared.Refusal.{Refusal}
-use Rattle.lent.proofs.Refusals.{told-first}
-use Rattle.table.specs.Tables.{Table, stampIn, statesIn}
+use Rattle.lent.proofs.Refusals.{first-clear, told-first}
+use Rattle.sheet.specs.Shape.{sheetShape}
+use Rattle.table.specs.Tables.{Table, stampIn, statesIn, matchedEnds}
 use Rattle.table.specs.Calls.{broken, notAState, stateVerdict}
+use Rattle.table.proofs.Shaped.{shaped, matched-ends-within}
+use Rattle.matcher.specs.Answers.{Rules}
 
 -- ---- of this table
 
@@ -47,16 +53,35 @@ pub ruleset verdicts = (verdict-broken, verdict-foreign, verdict-there, not-true
 
 module _ (w : List ℕ) (t : Table) (number stamp v : ℕ) (e : v ≡ stateVerdict w t number stamp) where
   module _ (h : v ≡ 0 → ⊥) where
+    pub rules-none : (whole part : RefT (List ℕ)) → part .now ≡ [] → Rules w t number stamp whole part
+    rules-none whole part f = record { numbers = rw (← e, ne-eqb v 0 h) f; place = λ z. absurd (h (e ∙ z)) }
+
     pub listing-refused : (x : Refusal) → x ≡ refusalOf v → (l : List ℕ) → told x ≡ answered (stateVerdict w t number stamp) l
     unfolding stateVerdict
     listing-refused x f l = rw (f, ← e, ne-eqb v 0 h) (told-first _ v refl e h)
-
-    pub rules-none : (r m l : List ℕ) → r ≡ take (0 - 0) (drop 0 m) → r ≡ cond (eqb (stateVerdict w t number stamp) 0) l []
-    rules-none r m l f = rw (← e, ne-eqb v 0 h) f
 
   module _ (z : v ≡ 0) where
     pub part-told : (from to a b : ℕ) → from ≡ a → to ≡ b → 0 ∷ from ∷ to ∷ [] ≡ answered (stateVerdict w t number stamp) (0 ∷ a ∷ b ∷ [])
     part-told from to a b f g = rw (← e, z, f, g)
 
-    pub rules-found : (r l : List ℕ) → r ≡ l → r ≡ cond (eqb (stateVerdict w t number stamp) 0) l []
-    rules-found r l f = rw (← e, z) f
+    -- an accepted state's list stands within the buffer
+    module _ (from a to b : ℕ) (f : from ≡ a) (i : a ≡ startOf (matchedEnds (t .states)) number) (g : to ≡ b) (j : b ≡ matchedEnds (t .states) number) where
+      within : (from ≤ to) × (to ≤ length (t .matched))
+      unfolding stateVerdict broken notAState
+      within =
+          let (c, r) = first-clear 11 (broken w t) _ (omega arith) (sym e ∙ z) in
+          let (d, _) = first-clear 4 (notAState (t .head) number stamp) _ (omega arith) r in
+          let s = shaped w t (and-right (sheetShape w) _ (not-false _ c)) in
+          let l = ltb-true number (statesIn (t .head)) (not-false _ (or-second (not (eqb stamp (stampIn (t .head)))) _ d)) in
+          (omega (arith, f, i, g, j, s .matched-up number l), omega (arith, g, j, matched-ends-within s number l, s .matched-room))
+
+      pub part-starts : from ≤ to
+      part-starts = within .0
+
+      pub part-ends : to ≤ length (t .matched)
+      part-ends = within .1
+
+      pub rules-found : (whole part : RefT (List ℕ)) → part .now ≡ take (to - from) (drop from (t .matched)) → part .ptr .0 ≡ whole .ptr .0 → part .ptr .1 ≡ whole .ptr .1 + 4 * from
+          → Rules w t number stamp whole part
+      unfolding listAt
+      rules-found whole part n k l = record { numbers = rw (← e, z, ← j, ← g, ← i, ← f) n; place = λ _. (k, rw (← i, ← f) l) }

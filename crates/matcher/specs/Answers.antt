@@ -2,16 +2,18 @@
 use mathlib.Core.Path.{_≡_}
 use mathlib.Core.Bool.{cond, not}
 use mathlib.Core.List.{List, [], _∷_}
-use Prim.Native.Nat.{ℕ}
+use Prim.Native.Nat.{ℕ, _+_, _*_}
 use lib.Dec.{eqb}
+use denote.Ref.{RefT}
+use Rattle.lent.specs.Pool.{startOf}
 use Rattle.lent.specs.Refusals.{told, answered, check, firstOf}
 use Rattle.selector.specs.Rows.{rowAt}
 use Rattle.selector.specs.Checks.{rowFits, tagsAscend}
 use Rattle.settle.specs.declared.Settled.{Settled}
 use Rattle.settle.specs.declared.Settled.the-variants.{At, NoRoom}
-use Rattle.table.specs.Tables.{Table}
+use Rattle.table.specs.Tables.{Table, matchedEnds, matchedAt}
 use Rattle.table.specs.Entering.{built, lacksRoom, childOf, entered}
-use Rattle.table.specs.Calls.{broken, notAState, buildVerdict, enterVerdict}
+use Rattle.table.specs.Calls.{broken, notAState, stateVerdict, buildVerdict, enterVerdict}
 use Rattle.matcher.specs.declared.Building.{Building}
 use Rattle.matcher.specs.declared.Entering.{Entering}
 use Rattle.matcher.specs.declared.Listing.{Listing}
@@ -40,6 +42,13 @@ pub record Build (w : List ℕ) (stamp ranking : ℕ) (t : Table) (r : Building)
 pub record Enter (w : List ℕ) (t : Table) (number stamp : ℕ) (row : List ℕ) (r : Entering) (t′ : Table) : Type 0 where
   pub answer : enteringTold r ≡ answered (enterVerdict w t number stamp row) (0 ∷ childOf w t number row ∷ stamp ∷ [])
   pub memory : t′ ≡ cond (eqb (enterVerdict w t number stamp row) 0) (entered w t number row) t
+
+-- ---- a state's matched rules: "handed back as the part of the lent buffer that holds it"; nothing where the state is refused
+
+-- `whole` is the buffer as it was lent. A place is a block of memory and the bytes up to it there; a word has four
+pub record Rules (w : List ℕ) (t : Table) (number stamp : ℕ) (whole part : RefT (List ℕ)) : Type 0 where
+  pub numbers : part .now ≡ cond (eqb (stateVerdict w t number stamp) 0) (matchedAt (t .states) (t .matched) number) []
+  pub place : stateVerdict w t number stamp ≡ 0 → (part .ptr .0 ≡ whole .ptr .0) × (part .ptr .1 ≡ whole .ptr .1 + 4 * startOf (matchedEnds (t .states)) number)
 
 -- ---- within: entering without the first four refusals, and these alone
 

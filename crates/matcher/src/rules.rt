@@ -4,19 +4,16 @@ use crate::MatchState;
 use crate::states::state_verdict;
 use lent::Refusal;
 use lent::lists::cell;
-use lent::lists::list_of;
-use lent::lists::part;
 use lent::lists::start_of;
+use lent::words::wide;
 use table::layout;
 ghost use mathlib.Core.Path.{_≡_};
-ghost use mathlib.Core.Bool.{cond};
 ghost use mathlib.Core.List.{[], _∷_};
-ghost use lib.Dec.{eqb};
 ghost use Rattle.lent.specs.Pool.{startOf};
 ghost use Rattle.lent.specs.Refusals.{answered};
-ghost use Rattle.table.specs.Tables.{table, matchedEnds, matchedAt};
+ghost use Rattle.table.specs.Tables.{table, matchedEnds};
 ghost use Rattle.table.specs.Calls.{stateVerdict};
-ghost use Rattle.matcher.specs.Answers.{listingTold};
+ghost use Rattle.matcher.specs.Answers.{listingTold, Rules};
 
 // Where the state's matched rules stand in `matched`.
 pub fn matching_part(
@@ -51,12 +48,14 @@ pub fn matching_rules<'a>(
     transitions: &[u32],
     state: MatchState,
 ) -> &'a [u32]
-    ensures { λ r. ⌜ now r ≡ cond (eqb (stateVerdict (now (sheet .entry)) (table (now (head .entry)) (now (states .entry)) (now (cursors .entry)) (now (matched .entry)) (now (transitions .entry))) (state .number) (state .stamp)) 0) (matchedAt (now (states .entry)) (now (matched .entry)) (state .number)) [] ⌝ }
+    ensures { λ r. ⌜ Rules (now (sheet .entry)) (table (now (head .entry)) (now (states .entry)) (now (cursors .entry)) (now (matched .entry)) (now (transitions .entry))) (state .number) (state .stamp) (matched .entry) r ⌝ }
 {
     let v = state_verdict(sheet, head, states, cursors, matched, transitions, state);
     if v != 0 {
-        return part(matched, 0, 0);
+        return &matched[0..0];
     }
     let ends = layout::MATCHED_ENDS;
-    list_of(states, ends, matched, state.number)
+    let from = wide(start_of(states, ends, state.number));
+    let to = wide(cell(states, ends, state.number));
+    &matched[from..to]
 }

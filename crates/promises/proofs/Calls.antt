@@ -1,13 +1,12 @@
 -- From the public calls' contracts to covered tables and reached states: t is the memory that a call gets, t′ the memory that it leaves. Assumes nothing.
 use mathlib.Core.Path.{_≡_, sym, ap, _∙_, subst}
-use mathlib.Core.Bool.{cond}
 use mathlib.Core.Logic.{_⊎_}
 use mathlib.Core.List.{List, [], _∷_, _++_}
-use Prim.Native.Nat.{ℕ, _+_, _<_}
+use Prim.Native.Nat.{ℕ, _+_, _*_, _<_}
 use native.Mathlib.Omega.{arith}
 use lib.ListN.{length}
-use lib.Dec.{eqb}
 use borrow.Author.Tests.{lt-ltb, eq-eqb}
+use denote.Ref.{RefT}
 use Rattle.theory.specs.Lists.{select}
 use Rattle.theory.specs.States.{rule}
 use Rattle.theory.proofs.Decide.{fitsTail}
@@ -18,9 +17,9 @@ use Rattle.selector.specs.Tags.{Tags, stepMatches}
 use Rattle.typed.specs.declared.SelectorInputs.{SelectorInputs}
 use Rattle.typed.specs.Typed.{inputsTags, inputsRow}
 use Rattle.sheet.specs.Layout.{rulesIn}
-use Rattle.table.specs.Tables.{Table, selectorsOf, stampIn, statesIn, matchedEnds, matchedAt}
+use Rattle.table.specs.Tables.{Table, selectorsOf, stampIn, statesIn, matchedEnds}
 use Rattle.table.specs.Calls.{notAState, stateVerdict}
-use Rattle.matcher.specs.Answers.{Build, Enter, listingTold}
+use Rattle.matcher.specs.Answers.{Build, Enter, Rules, listingTold}
 use Rattle.matcher.specs.declared.MatchState.{MatchState}
 use Rattle.matcher.specs.declared.Building.{Building}
 use Rattle.matcher.specs.declared.Entering.{Entering}
@@ -101,10 +100,14 @@ module _ {w : List ℕ} where
         let (l, e, _) = reached-is w p in
         rw (covered-in-shape (reached-covered w p), eq-eqb stamp (stampIn (t .head)) e, lt-ltb number (statesIn (t .head)) l)
 
-    -- `matching_rules`: what it gives is the rules that fit, by its contract
-    pub rules-given : (given : List ℕ) → given ≡ cond (eqb (stateVerdict w t number stamp) 0) (matchedAt (t .states) (t .matched) number) []
-        → given ≡ select (λ k. fitsTail stepMatches (rule (selectorsOf w) k) path) (rulesIn w)
-    rules-given given e = rw reached-accepted at e ∙ listed-is p
+    -- `matching_rules`, by its contract: the numbers that it gives are the rules that fit,
+    module _ {whole part : RefT (List ℕ)} (g : Rules w t number stamp whole part) where
+      pub rules-given : part .now ≡ select (λ k. fitsTail stepMatches (rule (selectorsOf w) k) path) (rulesIn w)
+      rules-given = rw reached-accepted at (g .numbers) ∙ listed-is p
+
+      -- "handed back as the part of the lent buffer that holds it": it stands where they stand in the buffer
+      pub rules-place : (part .ptr .0 ≡ whole .ptr .0) × (part .ptr .1 ≡ whole .ptr .1 + 4 * startOf (matchedEnds (t .states)) number)
+      rules-place = g .place reached-accepted
 
     -- `matching_part`: what it answers is where they stand
     pub part-given : (r : Listing) → listingTold r ≡ answered (stateVerdict w t number stamp) (0 ∷ startOf (matchedEnds (t .states)) number ∷ matchedEnds (t .states) number ∷ [])
