@@ -3,8 +3,7 @@ use mathlib.Core.Path.{_≡_, ap, _∙_}
 use mathlib.Core.Bool.{true}
 use mathlib.Core.List.{List, [], _∷_, _++_, flatMap}
 use Prim.Native.Nat.{ℕ, _+_, _≤_, _<_}
-use native.Mathlib.Omega.{arith}
-use lib.ListN.{length, getD, take, replicate, length-append, length-drop}
+use lib.ListN.{length, getD, take, replicate}
 use Rattle.theory.specs.Lists.{_∈_, sort}
 use Rattle.theory.specs.States.{State, root, enter}
 use Rattle.theory.proofs.Lists.{flatMap-in, flatMap-append}
@@ -55,15 +54,8 @@ advanced w parent top x next listed cursors matched next′ listed′ m h m′ h
 
 -- ---- for callers
 
--- the number of what is held is within the buffer
-within : {l d e : List ℕ} {n : ℕ} → Holds l d n e → length e ≡ length d → n ≤ length d
-within {l} {d} {e} {n} h g = let s = rw (h .whole, length-append, length-drop) at g in omega (arith, h .count)
-
 module _ {w parent top : List ℕ} {x : Tags} {next listed : List ℕ} {cursors matched : ℕ} {next′ listed′ : List ℕ}
     (a : Advanced w parent top x next listed cursors matched next′ listed′) where
-  pub counts-within : length next′ ≡ length next → length listed′ ≡ length listed → (cursors ≤ length next) × (matched ≤ length listed)
-  counts-within e f = (within (a .cursors-held) e, within (a .matched-held) f)
-
   -- both lists together are the state entered under s
   pub advanced-state : (s : State) → parent ≡ s .cursors → top ≡ root (selectorsOf w) .cursors → _≡_ {A = State} (record { cursors = take cursors next′; matched = take matched listed′ }) (enter stepMatches (selectorsOf w) s x)
   unfolding enter

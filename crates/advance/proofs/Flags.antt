@@ -27,7 +27,7 @@ unfolding marked
 marked-append [] k flags = refl
 marked-append (a ∷ l) k flags = marked-append l k (set flags a 1)
 
-pub length-marked : (l flags : List ℕ) → length (marked l flags) ≡ length flags
+length-marked : (l flags : List ℕ) → length (marked l flags) ≡ length flags
 unfolding marked
 length-marked [] flags = refl
 length-marked (a ∷ l) flags = length-marked l (set flags a 1) ∙ length-set flags a 1

@@ -3,7 +3,7 @@ use mathlib.Core.Path.{_≡_, refl}
 use mathlib.Core.Bool.{Bool, true, _&&_, not}
 use mathlib.Core.Logic.{inl, inr}
 use mathlib.Core.Option.{Option, none, some}
-use mathlib.Core.List.{List, _++_, flatMap, List·Memᴰ·not-nil}
+use mathlib.Core.List.{List, List·Memᴰ·not-nil}
 use Prim.Native.Nat.{ℕ, suc, _/_, _%_, _<_}
 use native.Mathlib.Omega.{arith}
 use native.Mathlib.Decide.{decLt}
@@ -12,8 +12,8 @@ use lib.Dec.{ltb}
 use borrow.Author.Tests.{eqb-false, not-true}
 use Rattle.theory.specs.Lists.{_∈_, only}
 use Rattle.theory.specs.Paths.{Part, Selector}
-use Rattle.theory.specs.States.{Sheet, rule, Small, cursor, State, root, descends, isLast, leaves, lists, leavesOf, listsOf, enter}
-use Rattle.theory.proofs.Lists.{and-right, append-in, flatMap-in, only-in, sort-in, T-is}
+use Rattle.theory.specs.States.{Sheet, rule, Small, cursor, descends, isLast, leaves, lists, leavesOf, listsOf}
+use Rattle.theory.proofs.Lists.{and-right, append-in, only-in, T-is}
 use Rattle.theory.proofs.Steps.{at-below}
 use Rattle.selector.specs.Tags.{Tags, stepMatches}
 use Rattle.sheet.specs.Layout.{rulesIn}
@@ -72,22 +72,3 @@ module _ (w : List ℕ) where
 
     pub listed-below : k ∈ listsOf stepMatches (selectorsOf w) x c → k < 256
     listed-below m = omega (arith, rule-there k (listed-there stepMatches (selectorsOf w) x c k m), shaped w shape .rules)
-
-  -- ---- and of an entered state, as the shape of a table asks
-
-  module _ (s : State) (x : Tags) (k : ℕ) where
-    pub cursors-there : sheetShape w ≡ true → k ∈ enter stepMatches (selectorsOf w) s x .cursors → k % 8 < length (rule (selectorsOf w) (k / 8))
-    unfolding enter
-    cursors-there shape h =
-        let f = leavesOf stepMatches (selectorsOf w) x in
-        let all = s .cursors ++ root (selectorsOf w) .cursors in
-        let (c, _, m) = flatMap-in f all k .0 (sort-in (flatMap f all) k .0 h) in
-        left-there stepMatches (selectorsOf w) x c k (selectors-small w shape) m
-
-    pub matched-there : k ∈ enter stepMatches (selectorsOf w) s x .matched → k < rulesIn w
-    unfolding enter
-    matched-there h =
-        let f = listsOf stepMatches (selectorsOf w) x in
-        let all = s .cursors ++ root (selectorsOf w) .cursors in
-        let (c, _, m) = flatMap-in f all k .0 (sort-in (flatMap f all) k .0 h) in
-        rule-there k (listed-there stepMatches (selectorsOf w) x c k m)

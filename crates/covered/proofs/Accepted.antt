@@ -24,6 +24,7 @@ use Rattle.table.specs.Entering.{rootsOf, rootLacksRoom, lacksRoom}
 use Rattle.table.specs.Calls.{broken, notAState, buildVerdict, enterVerdict}
 use Rattle.table.proofs.Shaped.{unshaped}
 use Rattle.covered.specs.Covered.{Enters}
+use Rattle.covered.specs.Rooms.{Proper}
 use Rattle.covered.proofs.Rows.{Fine}
 use Rattle.covered.proofs.Sound.{Sound, sound-shaped}
 
@@ -50,12 +51,6 @@ build-accepted w ranking states cursors e =
     }
 
 -- ---- entering
-
--- a subject's counts, and its ids
-pub record Proper (x : SelectorInputs) : Type 0 where
-  pub classes : x .«class_count» ≤ 16
-  pub pseudos : x .«pseudo_count» ≤ 16
-  pub rise : tagsAscend (inputsTags x) ≡ true
 
 pub row-tags : {x : SelectorInputs} → Proper x → rowAt 16 (inputsRow x) 0 ≡ inputsTags x
 row-tags {x} p = inputs-row x (p .classes) (p .pseudos)

@@ -15,11 +15,12 @@ use Rattle.table.specs.Tables.{Table, statesIn, transitionsIn, stateAt, firstLi
 use Rattle.table.specs.Entering.{leads, isHit, cached, nextState, cachedIn, numberIn, roomIn, holding, kept, lacksRoom, childOf, entered}
 use Rattle.table.proofs.Subjects.{same-subject-is}
 use Rattle.table.proofs.Chains.{cached-hit}
+use Rattle.table.proofs.Rooms.{room-for}
 use Rattle.covered.proofs.Rows.{Fine}
 use Rattle.covered.proofs.Found.{number-is}
 use Rattle.covered.proofs.Sound.{LeadsIn, Sound}
 use Rattle.covered.proofs.Keeps.{Kept, kept-none, kept-then, states-stay, leads-stay, leads-cast}
-use Rattle.covered.proofs.Growing.{room-for, grown-count, grown-stay, grown-new, grown-kept}
+use Rattle.covered.proofs.Growing.{grown-count, grown-stay, grown-new, grown-kept}
 use Rattle.covered.proofs.Hooking.{row-kept}
 
 -- the table is kept, and k is the child's number
@@ -51,7 +52,7 @@ module _ (w : List ℕ) {t : Table} (s : Sound w t) (p : ℕ) (l : p < statesIn 
       | inl (b, e) ↦ rw (lt-ltb (numberIn t next) (statesIn (t .head)) b) (record { kept = kept-none w s; leads = record { parent = l; child = b; enters = e }; grows = inl refl })
       | inr (q, none) ↦
           let z = le-ltb (numberIn t next) (statesIn (t .head)) (omega arith) in
-          let r = room-for t next (room z) in
+          let r = room-for (t .head) _ _ _ next (room z) in
           let g = grown-kept w t next s r p x l refl none in
           rw (z, q) (record {
             kept = g;

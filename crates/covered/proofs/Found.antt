@@ -15,7 +15,7 @@ use Rattle.table.proofs.Same.{same-is}
 
 -- ---- the first number that passes
 
-pub first-is : (p : ℕ → Bool) (k n : ℕ)
+first-is : (p : ℕ → Bool) (k n : ℕ)
     → ((firstFrom p k n < k + n) × (p (firstFrom p k n) ≡ true)) ⊎ ((firstFrom p k n ≡ k + n) × ((j : ℕ) → k ≤ j → j < k + n → p j ≡ false))
 unfolding firstFrom
 first-is p k zero = inr (omega arith, λ j a b. absurd (omega arith))

@@ -7,16 +7,14 @@ use native.Mathlib.Nat.{zero-add}
 use native.Mathlib.Omega.{arith}
 use lib.ListN.{length, getD}
 use lib.Seq.{sets, length-sets}
-use lib.Dec.{leb, ltb}
-use borrow.Author.Tests.{leb-true, ltb-true}
 use Rattle.theory.specs.States.{State, root, enter}
-use Rattle.theory.proofs.Lists.{and-left, and-right}
 use Rattle.lent.specs.Pool.{endsIn}
 use Rattle.lent.proofs.Placing.{sets-before, sets-inside, sets-after}
 use Rattle.selector.specs.Tags.{Tags, stepMatches}
 use Rattle.sheet.specs.Shape.{sheetShape}
 use Rattle.table.specs.Tables.{Table, selectorsOf, statesIn, cursorsIn, matchedIn, cursorEnds, matchedEnds, stateAt}
-use Rattle.table.specs.Entering.{rootsOf, built, roomFor, roomIn, grown, grownHead, grownStates, fits}
+use Rattle.table.specs.Entering.{rootsOf, built, grown, grownHead, grownStates}
+use Rattle.table.proofs.Rooms.{RoomFor}
 use Rattle.covered.proofs.Known.{known-root, known-more}
 use Rattle.covered.proofs.Columns.{EndToEnd, none-there, more-stays, more-end-to-end, more-list}
 use Rattle.covered.proofs.Rows.{row-before, row-new}
@@ -24,33 +22,10 @@ use Rattle.covered.proofs.Found.{state-is}
 use Rattle.covered.proofs.Sound.{Sound}
 use Rattle.covered.proofs.Keeps.{StatesStay, Kept, states-stay, leads-stay}
 
--- what the room for a state says
-pub record RoomFor (t : Table) (st : State) : Type 0 where
-  pub few : statesIn (t .head) < 512
-  pub rows : 3 * statesIn (t .head) + 3 ≤ length (t .states)
-  pub cursors : cursorsIn (t .head) + length (st .cursors) ≤ length (t .cursors)
-  pub matched : matchedIn (t .head) + length (st .matched) ≤ length (t .matched)
-
-pub room-for : (t : Table) (st : State) → roomIn t st ≡ true → RoomFor t st
-unfolding roomFor
-room-for t st e =
-    let n = statesIn (t .head) in
-    let rows = leb (3 * (n + 1)) (length (t .states)) in
-    let cursors = fits (length (t .cursors)) (cursorsIn (t .head)) (length (st .cursors)) in
-    let f = and-right (ltb n 512) _ e in
-    let g = and-right rows _ f in
-    let h = and-right cursors _ g in
-    record {
-      few = ltb-true n 512 (and-left (ltb n 512) _ e);
-      rows = omega (arith, leb-true (3 * (n + 1)) (length (t .states)) (and-left rows _ f));
-      cursors = leb-true _ _ (and-left _ _ (and-left cursors _ g));
-      matched = leb-true _ _ (and-left _ _ h);
-    }
-
 module _ (w : List ℕ) (t : Table) where
   -- ---- by entering
 
-  module _ (st : State) (s : Sound w t) (r : RoomFor t st) where
+  module _ (st : State) (s : Sound w t) (r : RoomFor (t .head) (length (t .states)) (length (t .cursors)) (length (t .matched)) st) where
     abbrev n : ℕ
     n = statesIn (t .head)
 
@@ -67,7 +42,7 @@ module _ (w : List ℕ) (t : Table) where
     end-before c h k l = row-before 3 n (t .states) row c h k l
 
     end-new : (c : ℕ) → c < 3 → endsIn (grownStates (t .head) (t .states) st) c 3 n ≡ getD row c 0
-    end-new c h = row-new 3 n (t .states) row c h (r .rows)
+    end-new c h = row-new 3 n (t .states) row c h (omega (arith, r .rows))
 
     pub grown-count : statesIn (grown t st .head) ≡ statesIn (t .head) + 1
     unfolding grown

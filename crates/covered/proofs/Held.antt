@@ -18,7 +18,7 @@ use Rattle.lent.proofs.Pool.{Rising}
 use Rattle.selector.specs.Tags.{Tags, stepMatches}
 use Rattle.table.specs.Shape.{same}
 use Rattle.table.proofs.Same.{same-is}
-use Rattle.covered.specs.Rooms.{sameState, holds, including, heldAlong, cursorsOf, matchedOf}
+use Rattle.covered.specs.Rooms.{sameState, holds, including, heldAlong, numbersOf}
 use Rattle.covered.proofs.Columns.{EndToEnd}
 use Rattle.covered.proofs.Known.{below}
 use Rattle.covered.proofs.Found.{state-is}
@@ -84,21 +84,6 @@ along-more sheet (x ∷ path) held s =
     by next false more e = (next ∷ more, e ∙ append-snoc held next more)
 
 -- ---- numbers
-
--- how many numbers one of the two lists has in all
-abbrev pub numbersOf : (State → List ℕ) → List State → ℕ
-numbersOf f [] = 0
-numbersOf f (s ∷ held) = length (f s) + numbersOf f held
-
-pub cursors-of : (held : List State) → cursorsOf held ≡ numbersOf (λ s. s .cursors) held
-unfolding cursorsOf
-cursors-of [] = refl
-cursors-of (s ∷ held) = rw (cursors-of held)
-
-pub matched-of : (held : List State) → matchedOf held ≡ numbersOf (λ s. s .matched) held
-unfolding matchedOf
-matched-of [] = refl
-matched-of (s ∷ held) = rw (matched-of held)
 
 module _ (f : State → List ℕ) where
   pub numbers-append : (a b : List State) → numbersOf f (a ++ b) ≡ numbersOf f a + numbersOf f b

@@ -15,12 +15,14 @@ use Rattle.typed.specs.declared.SelectorInputs.{SelectorInputs}
 use Rattle.typed.specs.Typed.{inputsTags, inputsRow, classNumber, pseudoNumber}
 use Rattle.table.specs.Tables.{Table, selectorsOf, stampIn, rankingIn, statesIn, matchedEnds, matchedAt, stateAt}
 use Rattle.table.specs.Entering
-use Rattle.covered.specs.Covered.{Enters, Covered}
+use Rattle.covered.specs.Covered.{Enters, Covered, After}
 use Rattle.covered.specs.Covered.Covered.{entered}
+use Rattle.covered.specs.Covered.After.{none, more}
+use Rattle.covered.specs.Rooms.{Proper}
 use Rattle.covered.proofs.Columns.{stays-start, stays-part}
 use Rattle.covered.proofs.Sound.{LeadsIn}
 use Rattle.covered.proofs.Keeps.{Kept, kept-none, kept-then, states-stay, leads-stay}
-use Rattle.covered.proofs.Accepted.{Proper, row-tags, enter-accepted, enter-accepts}
+use Rattle.covered.proofs.Accepted.{row-tags, enter-accepted, enter-accepts}
 use Rattle.covered.proofs.Entering.{child-there, child-has-room}
 use Rattle.covered.proofs.Reached.{covered-sound, enters-right}
 
@@ -37,22 +39,17 @@ equal-proper x y same p =
     record { classes = omega (arith, p .classes); pseudos = omega (arith, p .pseudos); rise = subst (λ (z : Tags). tagsAscend z ≡ true) same (p .rise) }
 
 module _ (w : List ℕ) where
-  -- accepted enterings, one after the other
-  pub data After (t : Table) : Table → Type 0 where
-    none : After t t
-    more : {t′ : Table} → After t t′ → (number stamp : ℕ) (x : SelectorInputs) → Enters w t′ number stamp x → After t (Entering.entered w t′ number (inputsRow x))
-
-  pub after-covered : {t t′ : Table} → Covered w t → After t t′ → Covered w t′
+  after-covered : {t t′ : Table} → Covered w t → After w t t′ → Covered w t′
   after-covered c none = c
   after-covered c (more a number stamp x v) = entered (after-covered c a) number stamp x v
 
-  pub after-kept : {t t′ : Table} → Covered w t → After t t′ → Kept w t t′
+  after-kept : {t t′ : Table} → Covered w t → After w t t′ → Kept w t t′
   after-kept c none = kept-none w (covered-sound w c)
   after-kept c (more a number stamp x v) = kept-then w (after-kept c a) (enters-right w (covered-sound w (after-covered c a)) number stamp x v .kept)
 
   -- ---- what they leave
 
-  module _ {t t′ : Table} (c : Covered w t) (a : After t t′) where
+  module _ {t t′ : Table} (c : Covered w t) (a : After w t t′) where
     -- no state is lost
     pub states-more : statesIn (t .head) ≤ statesIn (t′ .head)
     states-more = after-kept c a .stay .more
@@ -91,16 +88,13 @@ module _ (w : List ℕ) where
     child-leads : LeadsIn w t′ number k (inputsTags x)
     child-leads = enters-right w (covered-sound w c) number stamp x v .leads
 
-    -- it is there, and it is the state of the subject under the parent
-    pub child-below : Entering.childOf w t number (inputsRow x) < statesIn (Entering.entered w t number (inputsRow x) .head)
-    child-below = child-leads .child
-
+    -- it is the state of the subject under the parent
     pub child-is : stateAt (Entering.entered w t number (inputsRow x)) (Entering.childOf w t number (inputsRow x)) ≡ enter stepMatches (selectorsOf w) (stateAt t number) (inputsTags x)
     child-is = child-leads .enters ∙ ap (λ (z : State). enter stepMatches (selectorsOf w) z (inputsTags x)) (state-kept c (more none number stamp x v) number (enter-accepted w t number stamp x v .there))
 
     -- ---- equal subjects
 
-    module _ (y : SelectorInputs) (same : inputsTags x ≡ inputsTags y) {t″ : Table} (a : After t′ t″) where
+    module _ (y : SelectorInputs) (same : inputsTags x ≡ inputsTags y) {t″ : Table} (a : After w t′ t″) where
       kept : Kept w t′ t″
       kept = after-kept (entered c number stamp x v) a
 

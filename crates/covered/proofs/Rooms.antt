@@ -31,15 +31,15 @@ use Rattle.made.specs.Made.{Made}
 use Rattle.made.proofs.Promises.{made-shaped}
 use Rattle.covered.specs.Covered.{Builds, Enters, Covered}
 use Rattle.covered.specs.Covered.Covered.{built}
-use Rattle.covered.specs.Rooms.{including, heldAlong, statesFor, cursorsOf, matchedOf, Roomy, verdictsAlong}
+use Rattle.covered.specs.Rooms.{including, heldAlong, statesFor, numbersOf, Roomy, Proper, verdictsAlong}
 use Rattle.covered.proofs.Known.{below}
 use Rattle.covered.proofs.Sound.{Sound, cursor-exists, rule-exists}
 use Rattle.covered.proofs.Keeps.{StatesStay, states-stay}
 use Rattle.covered.proofs.Found.{number-is}
 use Rattle.covered.proofs.Growing.{built-word, built-root}
 use Rattle.covered.proofs.Entering.{Right}
-use Rattle.covered.proofs.Accepted.{Proper, row-tags, build-accepted, enter-accepts}
-use Rattle.covered.proofs.Held.{including-held, including-new, spread-in, along-more, numbersOf, cursors-of, matched-of, numbers-append, numbers-spread, column-sum}
+use Rattle.covered.proofs.Accepted.{row-tags, build-accepted, enter-accepts}
+use Rattle.covered.proofs.Held.{including-held, including-new, spread-in, along-more, numbers-append, numbers-spread, column-sum}
 use Rattle.covered.proofs.Reached.{builds-sound, enters-right}
 
 -- ---- how long a state's lists are
@@ -215,8 +215,8 @@ module _ (w : List ℕ) where
     enough = record {
       few = r .few;
       states = r .states;
-      cursors = rw (← cursors-of (statesFor w (map inputsTags xs))) (r .cursors);
-      matched = rw (← matched-of (statesFor w (map inputsTags xs))) (r .matched);
+      cursors = r .cursors;
+      matched = r .matched;
     }
 
     -- room for the root, too
@@ -247,7 +247,7 @@ module _ (w : List ℕ) where
 
 -- every made sheet has a covered table: rooms for the root are enough
 pub made-covered : {w : List ℕ} → Made w → (t : Table) × Covered w t
-unfolding heldAlong cursorsOf matchedOf
+unfolding heldAlong
 made-covered {w} m =
     let roots = length (Entering.rootsOf w) in
     let t : Table = table (replicate 8 0) (replicate 3 0) (replicate roots 0) [] [] in

@@ -22,9 +22,6 @@ use Rattle.covered.proofs.Known.{Known, Leads}
 use Rattle.covered.proofs.Columns.{EndToEnd, some-list}
 
 module _ (w : List ℕ) where
-  abbrev pub KnownIn : Table → Type 0
-  KnownIn t = Known stepMatches (selectorsOf w) (statesIn (t .head)) (stateAt t)
-
   abbrev pub LeadsIn : Table → ℕ → ℕ → Tags → Type 0
   LeadsIn t p k x = Leads stepMatches (selectorsOf w) (statesIn (t .head)) (stateAt t) p k x
 
@@ -38,7 +35,7 @@ module _ (w : List ℕ) where
     pub matched : EndToEnd (matchedEnds (t .states)) (statesIn (t .head)) (matchedIn (t .head)) (t .matched)
     pub transitions : 41 * transitionsIn (t .head) ≤ length (t .transitions)
     -- the states, and that each transition's child is that of its subject under its parent
-    pub known : KnownIn t
+    pub known : Known stepMatches (selectorsOf w) (statesIn (t .head)) (stateAt t)
     pub moves : (k : ℕ) → k < transitionsIn (t .head) → LeadsIn t (parentAt (t .transitions) k) (childAt (t .transitions) k) (subjectOf (t .transitions) k)
     pub subjects : (k : ℕ) → k < transitionsIn (t .head) → SubjectShaped (t .transitions) k
 

@@ -34,3 +34,8 @@ module _ (w : List ℕ) where
     -- and it stays reached after any accepted entering
     later : {t : Table} {number stamp : ℕ} {path : List Tags} → Reached t number stamp path → (number′ stamp′ : ℕ) (x : SelectorInputs) → Enters w t number′ stamp′ x
         → Reached (Entering.entered w t number′ (inputsRow x)) number stamp path
+
+  -- any number of accepted enterings
+  pub data After (t : Table) : Table → Type 0 where
+    none : After t t
+    more : {t′ : Table} → After t t′ → (number stamp : ℕ) (x : SelectorInputs) → Enters w t′ number stamp x → After t (Entering.entered w t′ number (inputsRow x))

@@ -1,12 +1,14 @@
 -- Room for a path, and what its enterings answer. Assumes nothing.
-use mathlib.Core.Bool.{Bool, false, _&&_, _||_, cond}
+use mathlib.Core.Path.{_≡_}
+use mathlib.Core.Bool.{Bool, true, false, _&&_, _||_, cond}
 use mathlib.Core.List.{List, [], _∷_, _++_}
 use Prim.Native.Nat.{ℕ, _+_, _*_, _≤_}
 use lib.ListN.{length}
 use Rattle.theory.specs.States.{State, Sheet, root, enter}
 use Rattle.selector.specs.Tags.{Tags, stepMatches}
+use Rattle.selector.specs.Checks.{tagsAscend}
 use Rattle.typed.specs.declared.SelectorInputs.{SelectorInputs}
-use Rattle.typed.specs.Typed.{inputsRow}
+use Rattle.typed.specs.Typed.{inputsTags, inputsRow}
 use Rattle.table.specs.Tables.{Table, selectorsOf}
 use Rattle.table.specs.Shape.{same}
 use Rattle.table.specs.Entering.{entered, childOf}
@@ -34,20 +36,23 @@ heldAlong sheet held s (x ∷ path) = heldAlong sheet (including held (enter ste
 abbrev pub statesFor : List ℕ → List Tags → List State
 statesFor w path = heldAlong (selectorsOf w) (root (selectorsOf w) ∷ []) (root (selectorsOf w)) path
 
-unfoldable pub cursorsOf : List State → ℕ
-cursorsOf [] = 0
-cursorsOf (s ∷ held) = length (s .cursors) + cursorsOf held
-
-unfoldable pub matchedOf : List State → ℕ
-matchedOf [] = 0
-matchedOf (s ∷ held) = length (s .matched) + matchedOf held
+-- how many numbers one of the two lists has in all
+abbrev pub numbersOf : (State → List ℕ) → List State → ℕ
+numbersOf f [] = 0
+numbersOf f (s ∷ held) = length (f s) + numbersOf f held
 
 -- Rooms that suffice, from the sheet and the path
 pub record Roomy (w : List ℕ) (path : List Tags) (t : Table) : Type 0 where
   pub few : length (statesFor w path) ≤ 512
   pub states : 3 * length (statesFor w path) ≤ length (t .states)
-  pub cursors : cursorsOf (statesFor w path) ≤ length (t .cursors)
-  pub matched : matchedOf (statesFor w path) ≤ length (t .matched)
+  pub cursors : numbersOf (λ s. s .cursors) (statesFor w path) ≤ length (t .cursors)
+  pub matched : numbersOf (λ s. s .matched) (statesFor w path) ≤ length (t .matched)
+
+-- a subject that refusals 2 and 1 let pass
+pub record Proper (x : SelectorInputs) : Type 0 where
+  pub classes : x .«class_count» ≤ 16
+  pub pseudos : x .«pseudo_count» ≤ 16
+  pub rise : tagsAscend (inputsTags x) ≡ true
 
 -- ---- what entering subject after subject answers, each under the child before: the refusals, 0 for none
 

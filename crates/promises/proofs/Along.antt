@@ -14,8 +14,8 @@ use Rattle.table.specs.Tables.{Table}
 use Rattle.table.specs.Entering.{entered, childOf}
 use Rattle.covered.specs.Covered.{Enters, Reached}
 use Rattle.covered.specs.Covered.Reached.{root, child, later}
-use Rattle.covered.specs.Rooms.{verdictsAlong}
-use Rattle.covered.proofs.Accepted.{Proper, enter-accepted}
+use Rattle.covered.specs.Rooms.{Proper, verdictsAlong}
+use Rattle.covered.proofs.Accepted.{enter-accepted}
 use Rattle.covered.proofs.Promises.{equal-proper}
 
 -- the table after all of them, and the last child

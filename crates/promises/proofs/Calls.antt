@@ -26,14 +26,13 @@ use Rattle.matcher.specs.declared.Entering.{Entering}
 use Rattle.matcher.specs.declared.Listing.{Listing}
 use Rattle.matcher.proofs.Answers.{built-is, build-refused-is, entered-is, enter-refused-is}
 use Rattle.matcher.proofs.Distinct.{listing-distinct}
-use Rattle.covered.specs.Covered.{Covered, Reached}
+use Rattle.covered.specs.Covered.{Covered, Reached, After}
 use Rattle.covered.specs.Covered.Covered.{built, entered}
 use Rattle.covered.specs.Covered.Reached.{root, child, later}
+use Rattle.covered.specs.Covered.After.{more}
 use Rattle.covered.proofs.Growing.{built-word}
 use Rattle.covered.proofs.Accepted.{build-accepted}
 use Rattle.covered.proofs.Reached.{reached-covered, reached-is}
-use Rattle.covered.proofs.Promises.{After}
-use Rattle.covered.proofs.Promises.After.{more}
 use Rattle.promises.proofs.Listed.{listed-is, next-number, covered-in-shape}
 
 module _ {w : List ℕ} where

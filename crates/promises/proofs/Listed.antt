@@ -25,14 +25,12 @@ use Rattle.made.proofs.Promises.{made-shaped}
 use Rattle.table.specs.Tables.{Table, selectorsOf, statesIn, matchedEnds, matchedAt, stateAt}
 use Rattle.table.specs.Entering.{built, entered, childOf}
 use Rattle.table.specs.Calls.{broken}
-use Rattle.covered.specs.Covered.{Builds, Enters, Covered, Reached}
+use Rattle.covered.specs.Covered.{Builds, Enters, Covered, Reached, After}
 use Rattle.covered.specs.Covered.Reached.{root}
-use Rattle.covered.specs.Rooms.{Roomy, verdictsAlong}
+use Rattle.covered.specs.Rooms.{Roomy, Proper, verdictsAlong}
 use Rattle.covered.proofs.Known.{below}
 use Rattle.covered.proofs.Keeps.{states-stay}
-use Rattle.covered.proofs.Accepted.{Proper}
 use Rattle.covered.proofs.Reached as States
-use Rattle.covered.proofs.Promises.{After}
 use Rattle.covered.proofs.Promises as Left
 use Rattle.covered.proofs.Rooms.{rooms-build, rooms-suffice}
 use Rattle.promises.proofs.Along.{tableAlong, numberAlong, along-reached, reached-proper}

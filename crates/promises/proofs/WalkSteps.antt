@@ -30,7 +30,8 @@ use Rattle.matcher.specs.declared.Entering.{Entering}
 use Rattle.matcher.proofs.Answers.{built-is, entered-is}
 use Rattle.matcher.proofs.Distinct.{building-distinct, entering-distinct}
 use Rattle.covered.specs.Covered.{Covered, Reached, Enters}
-use Rattle.covered.proofs.Accepted.{Proper, row-tags, enter-accepts}
+use Rattle.covered.specs.Rooms.{Proper}
+use Rattle.covered.proofs.Accepted.{row-tags, enter-accepts}
 use Rattle.covered.proofs.Held.{column-sum}
 use Rattle.covered.proofs.Reached.{covered-sound, enters-right, reached-covered, reached-is}
 use Rattle.promises.proofs.Calls.{build-reaches, build-one-state, enter-keeps, enter-reaches, enter-numbers}

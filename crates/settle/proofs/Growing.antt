@@ -1,15 +1,13 @@
 -- The ways through the test for room, a new state's words, and settling. Assumes nothing.
 use mathlib.Core.Path.{_≡_}
-use mathlib.Core.Bool.{Bool, true, false, _&&_, not}
+use mathlib.Core.Bool.{Bool, true, false, not}
 use mathlib.Core.List.{List, [], _∷_}
 use Prim.Native.Nat.{ℕ, _+_, _-_, _*_, _≤_, _<_}
 use native.Mathlib.Omega.{arith}
 use lib.ListN.{length}
 use lib.Seq.{sets}
-use lib.Dec.{ltb, leb}
-use borrow.Author.Tests.{lt-ltb, le-ltb, le-leb, lt-leb, ltb-true, leb-true, not-true, not-false}
-use Rattle.theory.specs.States.{State}
-use Rattle.theory.proofs.Lists.{and-left, and-right}
+use lib.Dec.{ltb}
+use borrow.Author.Tests.{lt-ltb, le-ltb, le-leb, lt-leb, not-true, not-false}
 use Rattle.lent.specs.Pool.{addressOf}
 use Rattle.table.specs.Tables.{table, statesIn, cursorsIn, matchedIn}
 use Rattle.table.specs.Entering.{fits, roomFor, grown, numberFor, holding}
@@ -46,33 +44,6 @@ module _ (h : List ℕ) (rs rc rm : ℕ) (nc nm : List ℕ) (n : ℕ) (en : n �
       pub room-is : not b ≡ false → (m : ℕ) (d : Bool) → m ≡ matchedIn h → d ≡ fits rm m (length nm) → d ≡ roomFor h rs rc rm (state nc nm)
       unfolding roomFor
       room-is l m d em ed = rw (← en, lt-ltb n 512 few, le-leb (3 * (n + 1)) rs (rw (et, ek) at rows), ← ec, ← eb, not-false b l, ← em) ed
-
--- what the test means
-pub record Roomy (h : List ℕ) (rs rc rm : ℕ) (x : State) : Type 0 where
-  pub few : statesIn h < 512
-  pub rows : 3 * (statesIn h + 1) ≤ rs
-  pub cursors : cursorsIn h + length (x .cursors) ≤ rc
-  pub cursors-fit : cursorsIn h + length (x .cursors) < 4294967296
-  pub matched : matchedIn h + length (x .matched) ≤ rm
-  pub matched-fit : matchedIn h + length (x .matched) < 4294967296
-
-pub roomy : (h : List ℕ) (rs rc rm : ℕ) (x : State) → roomFor h rs rc rm x ≡ true → Roomy h rs rc rm x
-unfolding roomFor
-roomy h rs rc rm x e =
-    let cs = cursorsIn h + length (x .cursors) in
-    let ms = matchedIn h + length (x .matched) in
-    let r = and-right (ltb (statesIn h) 512) _ e in
-    let p = and-right (leb (3 * (statesIn h + 1)) rs) _ r in
-    let c = and-left (leb cs rc && ltb cs 4294967296) _ p in
-    let m = and-right (leb cs rc && ltb cs 4294967296) _ p in
-    record {
-      few = ltb-true _ _ (and-left _ _ e);
-      rows = leb-true _ _ (and-left _ _ r);
-      cursors = leb-true cs rc (and-left _ (ltb cs 4294967296) c);
-      cursors-fit = ltb-true cs 4294967296 (and-right (leb cs rc) _ c);
-      matched = leb-true ms rm (and-left _ (ltb ms 4294967296) m);
-      matched-fit = ltb-true ms 4294967296 (and-right (leb ms rm) _ m);
-    }
 
 -- ---- a new state
 

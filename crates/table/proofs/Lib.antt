@@ -6,3 +6,4 @@ pub mod Roots
 pub mod ShapeLaws
 pub mod Subjects
 pub mod Chains
+pub mod Rooms

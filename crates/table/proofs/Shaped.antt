@@ -211,9 +211,6 @@ module _ {w : List ℕ} {t : Tables.Table} (s : Shaped w t) where
 
   -- ---- what follows
 
-  -- each end is within what is there
-  pub cursor-ends-within : (k : ℕ) → k < Tables.statesIn (t .head) → Tables.cursorEnds (t .states) k ≤ Tables.cursorsIn (t .head)
-  cursor-ends-within k h = end-within (Tables.cursorEnds (t .states)) (Tables.statesIn (t .head)) (Tables.cursorsIn (t .head)) (s .cursors-up) (s .cursors-end) k h
-
+  -- each end of a list of matched rules is within those there
   pub matched-ends-within : (k : ℕ) → k < Tables.statesIn (t .head) → Tables.matchedEnds (t .states) k ≤ Tables.matchedIn (t .head)
   matched-ends-within k h = end-within (Tables.matchedEnds (t .states)) (Tables.statesIn (t .head)) (Tables.matchedIn (t .head)) (s .matched-up) (s .matched-end) k h

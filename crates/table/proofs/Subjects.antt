@@ -11,14 +11,14 @@ use Rattle.table.specs.Shape.{same}
 use Rattle.table.specs.Entering.{sameTag, sameSubject}
 use Rattle.table.proofs.Same.{same-is}
 
-pub same-tag-is : (a b : Option ℕ) → (sameTag a b ≡ true) ↔ (a ≡ b)
+same-tag-is : (a b : Option ℕ) → (sameTag a b ≡ true) ↔ (a ≡ b)
 unfolding sameTag
 same-tag-is none none = (λ _. refl, λ _. refl)
 same-tag-is none (some b) = (λ e. cc, λ e. cc)
 same-tag-is (some a) none = (λ e. cc, λ e. cc)
 same-tag-is (some a) (some b) = (λ e. ap some (eqb-true a b e), λ e. eq-eqb a b (Option·some-injective a b e))
 
-pub same-subject-refl : (a : Tags) → sameSubject a a ≡ true
+same-subject-refl : (a : Tags) → sameSubject a a ≡ true
 unfolding sameSubject
 same-subject-refl a =
     rw (

@@ -1,5 +1,6 @@
 use borrow.Author.Needs.{needs}
-use Rattle.settle.proofs.Growing.{roomy, grown-is}
+use Rattle.table.proofs.Rooms.{room-for}
+use Rattle.settle.proofs.Growing.{grown-is}
 use Rattle.settle.proofs.held.grow.Statement.{statement}
 use Rattle.settle.proofs.held.grow.Tie as tie
 
@@ -13,19 +14,19 @@ word-requires-3 : tie.Need-word-requires-3
 word-requires-3 c κs = search needs
 
 add-count : tie.Need-add-count
-add-count c = let r = roomy _ _ _ _ _ (c .before .before .before .before .before .before .before .before .before .before .before .before .pre) in search needs
+add-count c = let r = room-for _ _ _ _ _ (c .before .before .before .before .before .before .before .before .before .before .before .before .pre) in search needs
 
 cast-cursor-end : tie.Need-cast-cursor-end
-cast-cursor-end c = let r = roomy _ _ _ _ _ (c .before .before .before .before .before .before .before .before .before .before .before .before .pre) in search needs
+cast-cursor-end c = let r = room-for _ _ _ _ _ (c .before .before .before .before .before .before .before .before .before .before .before .before .pre) in search needs
 
 add-cursor-end : tie.Need-add-cursor-end
-add-cursor-end c = let r = roomy _ _ _ _ _ (c .before .before .before .before .before .before .before .before .before .before .before .before .pre) in search needs
+add-cursor-end c = let r = room-for _ _ _ _ _ (c .before .before .before .before .before .before .before .before .before .before .before .before .pre) in search needs
 
 cast-matched-end : tie.Need-cast-matched-end
-cast-matched-end c = let r = roomy _ _ _ _ _ (c .before .before .before .before .before .before .before .before .before .before .before .before .pre) in search needs
+cast-matched-end c = let r = room-for _ _ _ _ _ (c .before .before .before .before .before .before .before .before .before .before .before .before .pre) in search needs
 
 add-matched-end : tie.Need-add-matched-end
-add-matched-end c = let r = roomy _ _ _ _ _ (c .before .before .before .before .before .before .before .before .before .before .before .before .pre) in search needs
+add-matched-end c = let r = room-for _ _ _ _ _ (c .before .before .before .before .before .before .before .before .before .before .before .before .pre) in search needs
 
 wide-requires : tie.Need-wide-requires
 wide-requires c κs = search needs
