@@ -14,8 +14,16 @@ pub(crate) fn sheet(body: &[u32], sheet: &mut [u32], at: usize) -> usize {
     at
 }
 
+// The words that are not there are 0.
 pub(crate) fn rooms(body: &[u32], rooms: &mut [u32], at: usize) -> usize {
-    copy_into(rooms, 0, body);
+    let given = [
+        word(body, 0),
+        word(body, 1),
+        word(body, 2),
+        word(body, 3),
+        word(body, 4),
+    ];
+    copy_into(rooms, 0, &given);
     at
 }
 
