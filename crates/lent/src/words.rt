@@ -57,3 +57,20 @@ pub fn widen_into(words: &mut [u32], at: usize, list: &[u16])
         j += 1;
     }
 }
+
+// Half words into half words.
+pub fn copy_halves_into(words: &mut [u16], at: usize, list: &[u16])
+    ensures { λ _. ⌜ now (words .exit) ≡ sets (now (words .entry)) at (now (list .entry)) ⌝ }
+{
+    let mut j = 0;
+    while j < list.len() {
+        if words.len() <= at {
+            return;
+        }
+        if words.len() - at <= j {
+            return;
+        }
+        words[at + j] = list[j];
+        j += 1;
+    }
+}

@@ -13,7 +13,7 @@ use mir.Syntax.{w16, w32}
 use mir.Val.{Fits}
 use borrow.Author.Tests.{lt-ltb, le-ltb, ne-eqb, ltb-true, not-true, not-false}
 use Rattle.theory.specs.Lists.{spread}
-use Rattle.theory.specs.Weight.{weightOf}
+use Rattle.theory.specs.Weight.{Counts, weightOf}
 use Rattle.theory.proofs.Spreads.{length-spread, getElem?-spread}
 use Rattle.lent.specs.Pool.{endsIn, startOf}
 use Rattle.lent.specs.Refusals.{told, refusalOf, check, firstOf, answered}
@@ -30,9 +30,9 @@ use Rattle.sheet.specs.declared.StepVerdict.the-variants as step
 use Rattle.sheet.specs.declared.StepAnswer.{StepAnswer}
 use Rattle.sheet.specs.Layout
 use Rattle.sheet.specs.Layout.{rulesIn, stepsIn, entriesIn, stylesIn, styleEntriesIn, stepPlace}
-use Rattle.sheet.specs.Sheets.{partAt, entryAt, ruleAt, styleAt, sheetOf, countsFor, between, ruleStepEnds, ruleEntryEnds, styleEntryEnds}
+use Rattle.sheet.specs.Sheets.{partAt, entryAt, ruleAt, styleAt, sheetOf, countsFor, weightFor, between, ruleStepEnds, ruleEntryEnds, styleEntryEnds}
 use Rattle.sheet.specs.Shape.{sheetShape}
-use Rattle.sheet.specs.Reading.{sheetVerdict, ruleVerdict, weightVerdict, emptinessOf, ruleNumbers, styleNumbers, entryNumbers, combinatorNumbers, styleThere, Weighed, StepRead}
+use Rattle.sheet.specs.Reading.{sheetVerdict, ruleVerdict, weightVerdict, emptinessOf, ruleNumbers, styleNumbers, entryNumbers, combinatorNumbers, styleThere, weightFrom, Weighed, StepRead}
 use Rattle.sheet.proofs.ReadLaws.{steps-few, entries-few, rule-steps-end, rule-entries-end, style-entries-end, rule-property-few, style-property-few}
 
 -- ---- elements of a list end to end
@@ -309,11 +309,14 @@ module _ (w : List ℕ) (r v : ℕ) (e : v ≡ ruleVerdict w r) (ranking : ℕ) 
     unfolding firstOf
     weight-code h l = rw (last, lt-ltb 1 ranking h)
 
-    module _ (h : ranking ≤ 1) (s : Specificity) (m : Weighed (countsFor (ruleAt w r .selector)) s) where
-      pub weight-sums : ranking ≡ 0 → 0 ∷ s .0 ∷ s .1 ∷ s .2 ∷ s .3 ∷ [] ≡ answered (weightVerdict w r ranking) (weightTold (weightOf ranking (countsFor (ruleAt w r .selector))))
-      unfolding firstOf
-      weight-sums k = rw (last, k, m .pseudos, m .classes, m .parts, m .types)
+    pub weight-told : ranking ≤ 1 → (s : Specificity) → weightFrom s ≡ weightFor ranking (ruleAt w r) → 0 ∷ s .0 ∷ s .1 ∷ s .2 ∷ s .3 ∷ [] ≡ answered (weightVerdict w r ranking) (weightTold (weightOf ranking (countsFor (ruleAt w r .selector))))
+    unfolding firstOf
+    weight-told h s q = rw (last, le-ltb 1 ranking h, ← q)
 
-      pub weight-level3 : (ranking ≡ 0 → ⊥) → 0 ∷ (s .1 + s .0) ∷ (s .3 + s .2) ∷ 0 ∷ 0 ∷ [] ≡ answered (weightVerdict w r ranking) (weightTold (weightOf ranking (countsFor (ruleAt w r .selector))))
-      unfolding firstOf
-      weight-level3 k = let q : ranking ≡ 1 = omega arith in rw (last, q, m .pseudos, m .classes, m .parts, m .types)
+-- the sums are the weight in ranking 0, and added in pairs in ranking 1
+module _ (l : List Counts) (s : Specificity) (m : Weighed l s) where
+  pub sums-weigh : (ranking : ℕ) → ranking ≡ 0 → weightFrom s ≡ weightOf ranking l
+  sums-weigh ranking k = rw (k, m .pseudos, m .classes, m .parts, m .types)
+
+  pub pairs-weigh : (ranking : ℕ) → ranking ≤ 1 → (ranking ≡ 0 → ⊥) → (t : Specificity) → t .0 ≡ s .1 + s .0 → t .1 ≡ s .3 + s .2 → t .2 ≡ 0 → t .3 ≡ 0 → weightFrom t ≡ weightOf ranking l
+  pairs-weigh ranking h k t a b c d = let q : ranking ≡ 1 = omega arith in rw (q, a, b, c, d, m .pseudos, m .classes, m .parts, m .types)

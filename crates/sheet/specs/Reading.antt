@@ -7,7 +7,7 @@ use Prim.Native.Nat.{ℕ, _+_, _≤_}
 use lib.ListN.{length, drop}
 use lib.Dec.{ltb, eqb}
 use Rattle.theory.specs.Paths.{Comb, child, descendant, Part}
-use Rattle.theory.specs.Weight.{Counts, total}
+use Rattle.theory.specs.Weight.{Counts, total, Weight}
 use Rattle.lent.specs.Refusals.{told, check, firstOf, answered}
 use Rattle.lent.specs.Pool.{startOf}
 use Rattle.selector.specs.Tags.{Tags}
@@ -119,6 +119,10 @@ combinatorNumbers (some p) = combNumbers (p .comb)
 -- direct style d and its entry i, where they are there
 abbrev pub styleThere : List ℕ → ℕ → List ℕ → List ℕ
 styleThere w d numbers = answered (sheetVerdict w) (cond (ltb d (Layout.stylesIn w)) numbers (0 ∷ []))
+
+-- The weight that the numbers are
+abbrev pub weightFrom : Specificity → Weight
+weightFrom s = record { first = s .0; second = s .1; third = s .2; fourth = s .3 }
 
 -- s is these counts summed over the steps, each at most 64
 pub record Weighed (l : List Counts) (s : Specificity) : Type 0 where

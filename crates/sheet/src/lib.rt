@@ -2,6 +2,7 @@
 use lent::Refusal;
 use typed::SelectorStep;
 
+pub mod held;
 pub mod layout;
 pub mod read;
 pub mod shape;

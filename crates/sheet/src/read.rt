@@ -9,6 +9,7 @@ use crate::RuleAnswer;
 use crate::StepAnswer;
 use crate::StepVerdict;
 use crate::StyleAnswer;
+use crate::held::weight;
 use crate::layout;
 use crate::shape::is_sheet;
 use crate::shape::list_length;
@@ -18,26 +19,22 @@ use lent::lists::cell;
 use lent::lists::start_of;
 use lent::words::wide;
 use lent::words::word;
-use selector::Specificity;
 use selector::Weighing;
 use typed::SelectorStep;
 ghost use mathlib.Core.Path.{_≡_};
-ghost use mathlib.Core.Bool.{true};
 ghost use mathlib.Core.Option.{some};
 ghost use mathlib.Core.List.{[], _∷_};
-ghost use Prim.Native.Nat.{suc, _+_, _≤_, _<_};
+ghost use Prim.Native.Nat.{suc, _+_, _≤_};
 ghost use lib.ListN.{getD, getElem?};
 ghost use Rattle.theory.specs.Weight.{weightOf};
 ghost use Rattle.lent.specs.Refusals.{answered};
-ghost use Rattle.selector.specs.Rows.{rowAt};
-ghost use Rattle.selector.specs.Weighing.{Counted, weighingTold, weightTold};
+ghost use Rattle.selector.specs.Weighing.{weighingTold, weightTold};
 ghost use Rattle.typed.specs.Typed.{asking};
 ghost use Rattle.typed.specs.declared.TypeChoice.{TypeChoice};
 ghost use Rattle.typed.specs.declared.PartChoice.{PartChoice};
-ghost use Rattle.sheet.specs.Layout.{rulesIn, stepsIn, stylesIn, stepPlace};
+ghost use Rattle.sheet.specs.Layout.{rulesIn, stylesIn};
 ghost use Rattle.sheet.specs.Sheets.{partAt, ruleAt, styleAt, entryAt, countsFor};
-ghost use Rattle.sheet.specs.Shape.{sheetShape};
-ghost use Rattle.sheet.specs.Reading.{countingTold, emptinessTold, ruleTold, styleTold, entryTold, combinatorTold, sheetVerdict, ruleVerdict, weightVerdict, emptinessOf, ruleNumbers, styleNumbers, entryNumbers, combinatorNumbers, styleThere, StepRead, Weighed};
+ghost use Rattle.sheet.specs.Reading.{countingTold, emptinessTold, ruleTold, styleTold, entryTold, combinatorTold, sheetVerdict, ruleVerdict, weightVerdict, emptinessOf, ruleNumbers, styleNumbers, entryNumbers, combinatorNumbers, styleThere, StepRead};
 
 // 11, then 9.
 fn rule_verdict(sheet: &[u32], number: u32) -> u32
@@ -242,44 +239,6 @@ pub fn style_entry(sheet: &[u32], number: u32, i: u32) -> EntryAnswer
     )
 }
 
-// The counts of step s: its ids are sets already.
-fn step_counts(sheet: &[u32], s: u32) -> Specificity
-    requires { ⌜ (sheetShape (now sheet) ≡ true) × (s < stepsIn (now sheet)) ⌝ }
-    ensures { λ r. ⌜ Counted (rowAt 8 (now (sheet .entry)) (stepPlace s)) r ⌝ }
-{
-    let at = step_place(s);
-    Specificity(
-        word(sheet, at + 5),
-        word(sheet, at + 4),
-        word(sheet, at + 2),
-        word(sheet, at),
-    )
-}
-
-// Each count summed over a rule's steps.
-fn sum(sheet: &[u32], number: u32) -> Specificity
-    requires { ⌜ (sheetShape (now sheet) ≡ true) × (number < rulesIn (now sheet)) ⌝ }
-    ensures { λ r. ⌜ Weighed (countsFor (ruleAt (now (sheet .entry)) number .selector)) r ⌝ }
-{
-    let steps = layout::RULE_STEP_ENDS;
-    let from = start_of(sheet, steps, number);
-    let to = cell(sheet, steps, number);
-    let mut pseudos: u32 = 0;
-    let mut classes: u32 = 0;
-    let mut parts: u32 = 0;
-    let mut types: u32 = 0;
-    let mut s = from;
-    while s < to {
-        let c = step_counts(sheet, s);
-        pseudos += c.0;
-        classes += c.1;
-        parts += c.2;
-        types += c.3;
-        s += 1;
-    }
-    Specificity(pseudos, classes, parts, types)
-}
-
 // The weight of a rule, in ranking 0 or 1.
 pub fn rule_weight(sheet: &[u32], number: u32, ranking: u32) -> Weighing
     ensures { λ r. ⌜ weighingTold r ≡ answered (weightVerdict (now (sheet .entry)) number ranking) (weightTold (weightOf ranking (countsFor (ruleAt (now (sheet .entry)) number .selector)))) ⌝ }
@@ -291,9 +250,5 @@ pub fn rule_weight(sheet: &[u32], number: u32, ranking: u32) -> Weighing
     if 1 < ranking {
         return Weighing::Refused(Refusal::CodeOutOfRange);
     }
-    let s = sum(sheet, number);
-    if ranking == 0 {
-        return Weighing::Weighs(s);
-    }
-    Weighing::Weighs(Specificity(s.1 + s.0, s.3 + s.2, 0, 0))
+    Weighing::Weighs(weight(sheet, number, ranking))
 }
