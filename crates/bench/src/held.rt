@@ -1,16 +1,24 @@
 // The cores. The Rust caller keeps what they require.
 use crate::REFUSED;
-use lent::lists::list_of;
 use lent::words::copy_into;
 use settle::Settled;
-use table::layout;
 ghost use mathlib.Core.Path.{_≡_};
 ghost use mathlib.Core.Bool.{true};
 ghost use Rattle.selector.specs.Rows.{rowAt};
 ghost use Rattle.selector.specs.Checks.{rowFits, tagsAscend};
 ghost use Rattle.sheet.specs.Shape.{sheetShape};
-ghost use Rattle.table.specs.Tables.{table};
+ghost use Rattle.table.specs.Tables.{table, matchedAt};
 ghost use Rattle.table.specs.Shape.{tableShape};
+ghost use Rattle.bench.specs.Numbers.{settledNumber, EntersHeld, Copied};
+
+fn number_of(settled: Settled) -> u32
+    ensures { λ r. ⌜ r ≡ settledNumber settled ⌝ }
+{
+    match settled {
+        Settled::At(number) => number,
+        Settled::NoRoom => REFUSED,
+    }
+}
 
 // The number of the child.
 #[no_mangle]
@@ -26,6 +34,7 @@ pub extern "C" fn bench_held_enter(
 ) -> u32
     requires { ⌜ (sheetShape (now sheet) ≡ true) × (tableShape (now sheet) (table (now head) (now states) (now cursors) (now matched) (now transitions)) ≡ true) ⌝ }
     requires { ⌜ (rowFits 16 (now row) 0 ≡ true) × (tagsAscend (rowAt 16 (now row) 0) ≡ true) ⌝ }
+    ensures { λ r. ⌜ EntersHeld (now (sheet .entry)) (table (now (head .entry)) (now (states .entry)) (now (cursors .entry)) (now (matched .entry)) (now (transitions .entry))) parent (now (row .entry)) r (table (now (head .exit)) (now (states .exit)) (now (cursors .exit)) (now (matched .exit)) (now (transitions .exit))) ⌝ }
 {
     let settled = matcher::held::enter_subject(
         sheet,
@@ -37,10 +46,7 @@ pub extern "C" fn bench_held_enter(
         parent,
         row,
     );
-    match settled {
-        Settled::At(number) => number,
-        Settled::NoRoom => REFUSED,
-    }
+    number_of(settled)
 }
 
 // The matched rules of a state, copied; how many there are.
@@ -50,9 +56,10 @@ pub extern "C" fn bench_held_matching(
     matched: &[u32],
     number: u32,
     out: &mut [u32],
-) -> usize {
-    let ends = layout::MATCHED_ENDS;
-    let list = list_of(states, ends, matched, number);
+) -> usize
+    ensures { λ r. ⌜ Copied (matchedAt (now (states .entry)) (now (matched .entry)) number) (now (out .entry)) r (now (out .exit)) ⌝ }
+{
+    let list = matcher::held::matching_rules(states, matched, number);
     copy_into(out, 0, list);
     list.len()
 }

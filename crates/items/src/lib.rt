@@ -2,8 +2,11 @@
 // and those words.
 use lent::words::wide;
 use lent::words::word;
-ghost use Prim.Native.Nat.{_≤_};
-ghost use lib.ListN.{length};
+ghost use mathlib.Core.Path.{_≡_};
+ghost use Prim.Native.Nat.{_≤_, min};
+ghost use lib.ListN.{length, getD, drop};
+ghost use Rattle.lines.specs.Text.{Read};
+ghost use Rattle.items.specs.Items.{tooLong};
 
 pub mod held;
 pub mod say;
@@ -12,7 +15,9 @@ pub mod say;
 pub const MOST: usize = 32768;
 
 // Whether the item that begins the bytes says that too many words follow.
-pub fn is_too_long(input: &[u8]) -> bool {
+pub fn is_too_long(input: &[u8]) -> bool
+    ensures { λ r. ⌜ r ≡ tooLong (now (input .entry)) ⌝ }
+{
     if input.len() < 8 {
         return false;
     }
@@ -21,7 +26,7 @@ pub fn is_too_long(input: &[u8]) -> bool {
 
 // The words that follow in an item; how many.
 pub fn body(item: &[u8], into: &mut [u32]) -> usize
-    ensures { λ r. ⌜ r ≤ length (now (into .entry)) ⌝ }
+    ensures { λ r. ⌜ (r ≤ length (now (into .entry))) × Read (drop 8 (now (item .entry))) (now (into .entry)) r (now (into .exit)) ⌝ }
 {
     if item.len() < 8 {
         return 0;
@@ -31,7 +36,7 @@ pub fn body(item: &[u8], into: &mut [u32]) -> usize
 
 // How many of `most` words are lent, if word i of `rooms` is the room.
 pub fn room(rooms: &[u32], i: usize, most: usize) -> usize
-    ensures { λ r. ⌜ r ≤ most ⌝ }
+    ensures { λ r. ⌜ (r ≤ most) × (r ≡ min (getD (now (rooms .entry)) i 0) most) ⌝ }
 {
     let n = wide(word(rooms, i));
     if most < n { most } else { n }

@@ -19,7 +19,7 @@ use Rattle.matcher.specs.declared.Entering.{Entering}
 -- ---- of any call
 
 -- an answer that begins with 0 is no refusal,
-accepted : (v : ℕ) (a b : List ℕ) → 0 ∷ a ≡ answered v b → v ≡ 0
+pub accepted : (v : ℕ) (a b : List ℕ) → 0 ∷ a ≡ answered v b → v ≡ 0
 accepted zero a b e = refl
 accepted (suc n) a b e =
     let q : 0 ∷ a ≡ suc n ∷ [] = rw (ne-eqb (suc n) 0 (λ z. omega arith)) at e in
@@ -27,7 +27,7 @@ accepted (suc n) a b e =
     absurd (omega arith)
 
 -- and no refusal begins with 0
-refused : (v : ℕ) (r : Refusal) (b : List ℕ) → told r ≡ answered v (0 ∷ b) → v ≡ 0 → ⊥
+pub refused : (v : ℕ) (r : Refusal) (b : List ℕ) → told r ≡ answered v (0 ∷ b) → v ≡ 0 → ⊥
 refused v r b e z =
     let (n, f) = number-positive r in
     let q : told r ≡ 0 ∷ b = rw z at e in

@@ -3,9 +3,10 @@ use mathlib.Core.Path.{_≡_, refl, sym, ap, _∙_}
 use mathlib.Core.List.{List}
 use Prim.Native.Nat.{ℕ}
 use lib.ListN.{getD}
+use denote.Ref.{RefT}
 use Rattle.lent.proofs.Refusals.{readBack, read-refused}
 use Rattle.table.specs.Tables.{Table}
-use Rattle.matcher.specs.Answers.{buildingTold, enteringTold, listingTold, Build, Enter}
+use Rattle.matcher.specs.Answers.{buildingTold, enteringTold, listingTold, Build, Enter, Part, Rules}
 use Rattle.matcher.specs.declared.Building.{Building}
 use Rattle.matcher.specs.declared.Entering.{Entering}
 use Rattle.matcher.specs.declared.Listing.{Listing}
@@ -51,3 +52,11 @@ build-determined {r = r} {r′ = r′} p q = (building-distinct r r′ (p .answe
 pub enter-determined : {w : List ℕ} {t : Table} {number stamp : ℕ} {row : List ℕ} {r r′ : Entering} {u u′ : Table}
     → Enter w t number stamp row r u → Enter w t number stamp row r′ u′ → (r ≡ r′) × (u ≡ u′)
 enter-determined {r = r} {r′ = r′} p q = (entering-distinct r r′ (p .answer ∙ sym (q .answer)), p .memory ∙ sym (q .memory))
+
+pub part-determined : {w : List ℕ} {t : Table} {number stamp : ℕ} {r r′ : Listing} → Part w t number stamp r → Part w t number stamp r′ → r ≡ r′
+part-determined {r = r} {r′ = r′} p q = listing-distinct r r′ (p .answer ∙ sym (q .answer))
+
+-- the same numbers at the same place
+pub rules-determined : {w : List ℕ} {t : Table} {number stamp : ℕ} {whole part part′ : RefT (List ℕ)}
+    → Rules w t number stamp whole part → Rules w t number stamp whole part′ → (part .now ≡ part′ .now) × (part .ptr ≡ part′ .ptr)
+rules-determined p q = (p .numbers ∙ sym (q .numbers), λ i. ((p .block ∙ sym (q .block)) i, (p .place ∙ sym (q .place)) i))

@@ -1,7 +1,7 @@
 -- Whether a state is one of a table, by each way through the code, and what is answered then. Assumes nothing.
 use mathlib.Core.Path.{_≡_, refl, sym, _∙_}
 use mathlib.Core.Bool.{Bool, true, false, not}
-use mathlib.Core.List.{List, [], _∷_}
+use mathlib.Core.List.{List, []}
 use mathlib.Core.Logic.{inl, inr}
 use Prim.Native.Nat.{ℕ, _+_, _-_, _*_, _≤_}
 use native.Mathlib.Omega.{arith}
@@ -18,7 +18,8 @@ use Rattle.sheet.specs.Shape.{sheetShape}
 use Rattle.table.specs.Tables.{Table, stampIn, statesIn, matchedEnds}
 use Rattle.table.specs.Calls.{broken, notAState, stateVerdict}
 use Rattle.table.proofs.Shaped.{shaped, matched-ends-within}
-use Rattle.matcher.specs.Answers.{Rules}
+use Rattle.matcher.specs.Answers.{Part, Rules}
+use Rattle.matcher.specs.declared.Listing.{Listing}
 
 -- ---- of this table
 
@@ -53,16 +54,19 @@ pub ruleset verdicts = (verdict-broken, verdict-foreign, verdict-there, not-true
 
 module _ (w : List ℕ) (t : Table) (number stamp v : ℕ) (e : v ≡ stateVerdict w t number stamp) where
   module _ (h : v ≡ 0 → ⊥) where
-    pub rules-none : (whole part : RefT (List ℕ)) → part .now ≡ [] → Rules w t number stamp whole part
-    rules-none whole part f = record { numbers = rw (← e, ne-eqb v 0 h) f; place = λ z. absurd (h (e ∙ z)) }
+    pub rules-none : (whole part : RefT (List ℕ)) → part .now ≡ [] → part .ptr .0 ≡ whole .ptr .0 → part .ptr .1 ≡ whole .ptr .1 + 4 * 0 → Rules w t number stamp whole part
+    rules-none whole part n k l = record { numbers = rw (← e, ne-eqb v 0 h) n; block = k; place = rw (← e, ne-eqb v 0 h) l }
 
     pub listing-refused : (x : Refusal) → x ≡ refusalOf v → (l : List ℕ) → told x ≡ answered (stateVerdict w t number stamp) l
     unfolding stateVerdict
     listing-refused x f l = rw (f, ← e, ne-eqb v 0 h) (told-first _ v refl e h)
 
+    pub part-refused : (x : Refusal) → x ≡ refusalOf v → Part w t number stamp (Listing.Refused x)
+    part-refused x f = record { answer = listing-refused x f _ }
+
   module _ (z : v ≡ 0) where
-    pub part-told : (from to a b : ℕ) → from ≡ a → to ≡ b → 0 ∷ from ∷ to ∷ [] ≡ answered (stateVerdict w t number stamp) (0 ∷ a ∷ b ∷ [])
-    part-told from to a b f g = rw (← e, z, f, g)
+    pub part-found : (from to : ℕ) → from ≡ startOf (matchedEnds (t .states)) number → to ≡ matchedEnds (t .states) number → Part w t number stamp (Listing.Part from to)
+    part-found from to f g = record { answer = rw (← e, z, f, g) }
 
     -- an accepted state's list stands within the buffer
     module _ (from a to b : ℕ) (f : from ≡ a) (i : a ≡ startOf (matchedEnds (t .states)) number) (g : to ≡ b) (j : b ≡ matchedEnds (t .states) number) where
@@ -84,4 +88,4 @@ module _ (w : List ℕ) (t : Table) (number stamp v : ℕ) (e : v ≡ stateVerdi
       pub rules-found : (whole part : RefT (List ℕ)) → part .now ≡ take (to - from) (drop from (t .matched)) → part .ptr .0 ≡ whole .ptr .0 → part .ptr .1 ≡ whole .ptr .1 + 4 * from
           → Rules w t number stamp whole part
       unfolding listAt
-      rules-found whole part n k l = record { numbers = rw (← e, z, ← j, ← g, ← i, ← f) n; place = λ _. (k, rw (← i, ← f) l) }
+      rules-found whole part n k l = record { numbers = rw (← e, z, ← j, ← g, ← i, ← f) n; block = k; place = rw (← e, z, ← i, ← f) l }

@@ -43,12 +43,18 @@ pub record Enter (w : List ℕ) (t : Table) (number stamp : ℕ) (row : List ℕ
   pub answer : enteringTold r ≡ answered (enterVerdict w t number stamp row) (0 ∷ childOf w t number row ∷ stamp ∷ [])
   pub memory : t′ ≡ cond (eqb (enterVerdict w t number stamp row) 0) (entered w t number row) t
 
--- ---- a state's matched rules: "handed back as the part of the lent buffer that holds it"; nothing where the state is refused
+-- ---- a state's matched rules
 
--- `whole` is the buffer as it was lent. A place is a block of memory and the bytes up to it there; a word has four
+-- where they stand in the buffer: from, up to
+pub record Part (w : List ℕ) (t : Table) (number stamp : ℕ) (r : Listing) : Type 0 where
+  pub answer : listingTold r ≡ answered (stateVerdict w t number stamp) (0 ∷ startOf (matchedEnds (t .states)) number ∷ matchedEnds (t .states) number ∷ [])
+
+-- "handed back as the part of the lent buffer that holds it"; nothing, at the buffer's own place, where the state is refused.
+-- `whole` is the buffer `t .matched` as it was lent. A place is a block of memory and the bytes up to it there; a word has four
 pub record Rules (w : List ℕ) (t : Table) (number stamp : ℕ) (whole part : RefT (List ℕ)) : Type 0 where
   pub numbers : part .now ≡ cond (eqb (stateVerdict w t number stamp) 0) (matchedAt (t .states) (t .matched) number) []
-  pub place : stateVerdict w t number stamp ≡ 0 → (part .ptr .0 ≡ whole .ptr .0) × (part .ptr .1 ≡ whole .ptr .1 + 4 * startOf (matchedEnds (t .states)) number)
+  pub block : part .ptr .0 ≡ whole .ptr .0
+  pub place : part .ptr .1 ≡ whole .ptr .1 + 4 * cond (eqb (stateVerdict w t number stamp) 0) (startOf (matchedEnds (t .states)) number) 0
 
 -- ---- within: entering without the first four refusals, and these alone
 

@@ -15,7 +15,7 @@ ghost use Rattle.selector.specs.Rows.{rowAt};
 ghost use Rattle.selector.specs.Checks.{rowFits, tagsAscend};
 ghost use Rattle.sheet.specs.Shape.{sheetShape};
 ghost use Rattle.settle.specs.Settling.{Settles};
-ghost use Rattle.table.specs.Tables.{table};
+ghost use Rattle.table.specs.Tables.{table, matchedAt};
 ghost use Rattle.table.specs.Shape.{rootCursors, tableShape};
 ghost use Rattle.table.specs.Entering.{nextState};
 ghost use Rattle.matcher.specs.Answers.{Enters};
@@ -83,4 +83,12 @@ pub fn enter_subject(
         }
         Settled::NoRoom => Settled::NoRoom,
     }
+}
+
+// The matched rules of the state with the number.
+pub fn matching_rules<'a>(states: &[u32], matched: &'a [u32], number: u32) -> &'a [u32]
+    ensures { λ r. ⌜ now r ≡ matchedAt (now (states .entry)) (now (matched .entry)) number ⌝ }
+{
+    let ends = layout::MATCHED_ENDS;
+    list_of(states, ends, matched, number)
 }

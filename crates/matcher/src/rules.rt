@@ -7,13 +7,8 @@ use lent::lists::cell;
 use lent::lists::start_of;
 use lent::words::wide;
 use table::layout;
-ghost use mathlib.Core.Path.{_≡_};
-ghost use mathlib.Core.List.{[], _∷_};
-ghost use Rattle.lent.specs.Pool.{startOf};
-ghost use Rattle.lent.specs.Refusals.{answered};
-ghost use Rattle.table.specs.Tables.{table, matchedEnds};
-ghost use Rattle.table.specs.Calls.{stateVerdict};
-ghost use Rattle.matcher.specs.Answers.{listingTold, Rules};
+ghost use Rattle.table.specs.Tables.{table};
+ghost use Rattle.matcher.specs.Answers.{Part, Rules};
 
 // Where the state's matched rules stand in `matched`.
 pub fn matching_part(
@@ -25,7 +20,7 @@ pub fn matching_part(
     transitions: &[u32],
     state: MatchState,
 ) -> Listing
-    ensures { λ r. ⌜ listingTold r ≡ answered (stateVerdict (now (sheet .entry)) (table (now (head .entry)) (now (states .entry)) (now (cursors .entry)) (now (matched .entry)) (now (transitions .entry))) (state .number) (state .stamp)) (0 ∷ startOf (matchedEnds (now (states .entry))) (state .number) ∷ matchedEnds (now (states .entry)) (state .number) ∷ []) ⌝ }
+    ensures { λ r. ⌜ Part (now (sheet .entry)) (table (now (head .entry)) (now (states .entry)) (now (cursors .entry)) (now (matched .entry)) (now (transitions .entry))) (state .number) (state .stamp) r ⌝ }
 {
     let v = state_verdict(sheet, head, states, cursors, matched, transitions, state);
     if v != 0 {

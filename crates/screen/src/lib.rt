@@ -4,6 +4,7 @@ ghost use mathlib.Core.Path.{_≡_};
 ghost use mathlib.Core.Bool.{cond};
 ghost use lib.Dec.{leb};
 ghost use Rattle.screen.specs.Labelled.{Labelled};
+ghost use Rattle.screen.specs.Ends.{atFront, Ends};
 
 pub mod held;
 
@@ -29,13 +30,17 @@ pub fn send(out: &[u8], used: usize, least: usize) -> usize
 }
 
 // The words alone.
-pub fn line(out: &mut [u8], words: &[u8]) {
+fn line(out: &mut [u8], words: &[u8])
+    ensures { λ _. ⌜ now (out .exit) ≡ atFront (now (words .entry)) (now (out .entry)) ⌝ }
+{
     let used = lines::text(out, 0, words);
     send(out, used, 0);
 }
 
 // Whether nothing more is to be read after `rest`, which holds nothing whole. Input that does not end between two whole things gets a last line.
-pub fn ends(rest: &[u8], is_too_long: bool, at_end: bool, out: &mut [u8]) -> bool {
+pub fn ends(rest: &[u8], is_too_long: bool, at_end: bool, out: &mut [u8]) -> bool
+    ensures { λ r. ⌜ Ends «is_too_long» «at_end» (now (rest .entry)) (now (out .entry)) r (now (out .exit)) ⌝ }
+{
     if is_too_long {
         line(out, b"too long\n");
         return true;

@@ -8,6 +8,7 @@ use native.Mathlib.Omega.{arith}
 use lib.ListN.{length, getD, take, drop}
 use lib.Seq.{length-take-le}
 use lib.Dec.{ltb, eqb}
+use denote.Ref.{RefT}
 use borrow.Author.Tests.{lt-ltb, le-ltb, ltb-true, ltb-false, eq-eqb, ne-eqb, eqb-true, eqb-false}
 use Rattle.lent.specs.declared.Refusal.{Refusal}
 use Rattle.lent.specs.Refusals.{refusalOf, told, answered}
@@ -15,7 +16,7 @@ use Rattle.lent.proofs.Refusals.{told-of, number-positive}
 use Rattle.style.specs.declared.Place.{Place}
 use Rattle.style.specs.declared.Place.the-variants as position
 use Rattle.style.specs.Checks.{styleVerdict}
-use Rattle.style.specs.Looking.{placeOf, placeIn, kindOf, plainKind, plainOf, resourceKind, resourceOf, positionTold, positionOf, containingOf, styleAnswer, found, idsOf}
+use Rattle.style.specs.Looking.{placeOf, placeIn, kindOf, plainKind, plainOf, resourceKind, resourceOf, positionTold, positionOf, containingOf, styleAnswer, found, Ids}
 use Rattle.style.proofs.CheckLaws.{accepted, verdict-few, kind-few}
 use Rattle.style.proofs.LookLaws.{member-place, entryAt, look-found, look-none}
 
@@ -52,19 +53,19 @@ module _ (properties kinds numbers : List ℕ) (n v : ℕ) (e : v ≡ styleVerdi
       let few : v < 10 = rw e (verdict-few properties kinds numbers n) in
       rw (← e, ne-eqb v 0 h, f) (told-of v (omega arith) (omega arith) (λ t. omega arith))
 
-  pub ids-none : (v ≡ 0 → ⊥) → (l : List ℕ) → l ≡ take (0 - 0) (drop 0 properties) → l ≡ idsOf properties kinds numbers n
-  ids-none h l f = rw (← e, ne-eqb v 0 h) f
+  pub ids-none : (v ≡ 0 → ⊥) → (whole part : RefT (List ℕ)) → part .now ≡ take (0 - 0) (drop 0 properties) → part .ptr .0 ≡ whole .ptr .0 → part .ptr .1 ≡ whole .ptr .1 → Ids properties kinds numbers n whole part
+  ids-none h whole part f k l = record { ids = rw (← e, ne-eqb v 0 h) f; place = λ i. (k i, l i) }
 
   module _ (z : v ≡ 0) where
     pub told-is : (l : List ℕ) → l ≡ styleAnswer properties kinds numbers n l
     told-is l = rw (← e, eq-eqb v 0 z)
 
-    pub ids-all : (l : List ℕ) → l ≡ take (n - 0) (drop 0 properties) → l ≡ idsOf properties kinds numbers n
-    ids-all l f = let m : n - 0 ≡ n = omega arith in rw (← e, eq-eqb v 0 z) (rw m at f)
+    pub ids-all : (whole part : RefT (List ℕ)) → part .now ≡ take (n - 0) (drop 0 properties) → part .ptr .0 ≡ whole .ptr .0 → part .ptr .1 ≡ whole .ptr .1 → Ids properties kinds numbers n whole part
+    ids-all whole part f k l = let m : n - 0 ≡ n = omega arith in record { ids = rw (← e, eq-eqb v 0 z) (rw m at f); place = λ i. (k i, l i) }
 
     -- an accepted style's list is not too short
-    pub ids-short : length properties < n → (l : List ℕ) → l ≡ idsOf properties kinds numbers n
-    ids-short h l = let a = accepted properties kinds numbers n v e z in absurd (omega (arith, a .counted .in-properties))
+    pub ids-short : length properties < n → (whole part : RefT (List ℕ)) → Ids properties kinds numbers n whole part
+    ids-short h whole part = let a = accepted properties kinds numbers n v e z in absurd (omega (arith, a .counted .in-properties))
 
     module _ (p at : ℕ) (f : at ≡ placeOf p (take n properties)) where
       counted : length (take n properties) ≡ n

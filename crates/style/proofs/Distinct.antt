@@ -5,6 +5,7 @@ use mathlib.Core.List.{List, [], _∷_}
 use Prim.Native.Nat.{ℕ}
 use lib.ListN.{getD}
 use lib.Dec.{eqb}
+use denote.Ref.{RefT}
 use Rattle.lent.proofs.Refusals.{readBack, read-refused}
 use Rattle.style.specs.declared.Containing.{Containing}
 use Rattle.style.specs.declared.Containing.the-variants as containing
@@ -18,7 +19,7 @@ use Rattle.style.specs.declared.ResourceKey.{ResourceKey}
 use Rattle.style.specs.declared.ResourceKey.the-variants as resource
 use Rattle.style.specs.declared.Length.{Length}
 use Rattle.style.specs.declared.Length.the-variants as len
-use Rattle.style.specs.Looking.{containingTold, positionTold, kindTold, plainTold, resourceTold, lengthTold}
+use Rattle.style.specs.Looking.{containingTold, positionTold, kindTold, plainTold, resourceTold, lengthTold, Ids}
 
 readContaining : List ℕ → Containing
 readContaining = readBack (λ l. cond (eqb (getD l 0 0) 1) containing.Yes containing.No) containing.Refused
@@ -102,3 +103,8 @@ read-length (len.Refused r) = read-refused _ len.Refused r
 
 pub length-distinct : (a b : Length) → lengthTold a ≡ lengthTold b → a ≡ b
 length-distinct a b e = sym (read-length a) ∙ ap readLength e ∙ read-length b
+
+-- the same ids at the same place
+pub ids-determined : {properties kinds numbers : List ℕ} {n : ℕ} {whole part part′ : RefT (List ℕ)}
+    → Ids properties kinds numbers n whole part → Ids properties kinds numbers n whole part′ → (part .now ≡ part′ .now) × (part .ptr ≡ part′ .ptr)
+ids-determined p q = (p .ids ∙ sym (q .ids), p .place ∙ sym (q .place))

@@ -1,10 +1,12 @@
 -- What the look-ups of a style answer, as numbers: 0 and what was found, or a refusal's own number. Assumes nothing.
+use mathlib.Core.Path.{_≡_}
 use mathlib.Core.Bool.{Bool, true, false, cond}
 use mathlib.Core.Option.{Option, none, some}
 use mathlib.Core.List.{List, [], _∷_}
 use Prim.Native.Nat.{ℕ, zero, suc}
 use lib.ListN.{take}
 use lib.Dec.{eqb, ltb}
+use denote.Ref.{RefT}
 use Rattle.theory.specs.Lists.{member}
 use Rattle.lent.specs.Refusals.{told, answered}
 use Rattle.style.specs.declared.Containing.{Containing}
@@ -110,3 +112,8 @@ module _ (properties kinds numbers : List ℕ) (n : ℕ) where
   -- the ids in order, none of a refused style
   abbrev pub idsOf : List ℕ
   idsOf = cond (eqb (styleVerdict properties kinds numbers n) 0) (take n properties) []
+
+  -- They are the front of the caller's list `whole`, and stand where it does
+  pub record Ids (whole part : RefT (List ℕ)) : Type 0 where
+    pub ids : part .now ≡ idsOf
+    pub place : part .ptr ≡ whole .ptr

@@ -7,7 +7,7 @@ ghost use mathlib.Core.List.{[], _∷_};
 ghost use Prim.Native.Nat.{_≤_};
 ghost use lib.ListN.{length, take};
 ghost use Rattle.style.specs.Checks.{entriesOver, kindsOver, propertiesOff, styleVerdict};
-ghost use Rattle.style.specs.Looking.{containingTold, positionTold, kindTold, plainTold, resourceTold, lengthTold, placeOf, kindOf, plainOf, resourceOf, styleAnswer, found, containingOf, positionOf, idsOf};
+ghost use Rattle.style.specs.Looking.{containingTold, positionTold, kindTold, plainTold, resourceTold, lengthTold, placeOf, kindOf, plainOf, resourceOf, styleAnswer, found, containingOf, positionOf, Ids};
 
 pub mod held;
 
@@ -163,7 +163,7 @@ pub fn property_ids<'a>(
     numbers: &[u32],
     count: usize,
 ) -> &'a [u16]
-    ensures { λ r. ⌜ now r ≡ idsOf (now (properties .entry)) (now (kinds .entry)) (now (numbers .entry)) count ⌝ }
+    ensures { λ r. ⌜ Ids (now (properties .entry)) (now (kinds .entry)) (now (numbers .entry)) count (properties .entry) r ⌝ }
 {
     if held::verdict(properties, kinds, numbers, count) != 0 {
         return &properties[0..0];

@@ -1,3 +1,5 @@
+use mathlib.Core.Path.{refl}
+use native.Mathlib.Omega.{arith}
 use borrow.Author.Needs.{needs}
 use Rattle.style.proofs.Answers.{ids-none, ids-short, ids-all}
 use Rattle.style.proofs.property_ids.Statement.{statement}
@@ -16,7 +18,7 @@ part-result-end : tie.Need-part-result-end
 part-result-end c = search needs
 
 returns : tie.Need-returns
-returns c = search (ids-none, needs)
+returns c = ids-none _ _ _ _ _ (c .before .before .verdict .ensures) (c .before .if1 .taken) _ _ refl refl (omega arith)
 
 sub-result-2 : tie.Need-sub-result-2
 sub-result-2 c = search needs
@@ -40,7 +42,7 @@ part-result-end-3 : tie.Need-part-result-end-3
 part-result-end-3 c = search needs
 
 returns-3 : tie.Need-returns-3
-returns-3 c = search (ids-all, needs)
+returns-3 c = ids-all _ _ _ _ _ (c .before .before .before .verdict .ensures) (c .before .before .if1 .left) _ _ refl refl (omega arith)
 
 pub property-ids-spec : {M : Type 1} → statement M
 property-ids-spec =

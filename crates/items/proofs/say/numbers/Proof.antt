@@ -1,19 +1,19 @@
 -- `items::say::numbers` meets its contract. Assumes nothing.
 use Prim.Native.Nat.{_-_}
-use mathlib.Core.Path.{_≡_}
 use lib.ListN.{length}
 use borrow.Author.Needs.{needs}
+use Rattle.items.proofs.Saying.{Saying, saying-start, saying-one, saying-done}
 use Rattle.items.proofs.say.numbers.Statement.{statement}
 use Rattle.items.proofs.say.numbers.Tie as tie
 
 abbrev Inv-loop : tie.InvT-loop
-Inv-loop out₀ at list used₀ i₀ out used i = length out ≡ length out₀
+Inv-loop out₀ at list used₀ i₀ out used i = Saying list out₀ at i out used
 
 abbrev μ-loop : tie.MeasureT-loop
 μ-loop out₀ at list used₀ i₀ out used i = length list - i
 
 loop-holds : tie.Need-loop-holds Inv-loop μ-loop
-loop-holds c = search needs
+loop-holds c = search (saying-start, needs)
 
 mul-number : tie.Need-mul-number Inv-loop μ-loop
 mul-number c = search needs
@@ -31,13 +31,13 @@ loop-less : tie.Need-loop-less Inv-loop μ-loop
 loop-less c = search needs
 
 loop-again : tie.Need-loop-again Inv-loop μ-loop
-loop-again c = search needs
+loop-again c = search (saying-one, needs)
 
 same-length : tie.Need-same-length Inv-loop μ-loop
 same-length c = search needs
 
 returns : tie.Need-returns Inv-loop μ-loop
-returns c = search needs
+returns c = search (saying-done, needs)
 
 pub numbers-spec : {M : Type 1} → statement M
 numbers-spec =

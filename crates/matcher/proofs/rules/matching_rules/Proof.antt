@@ -18,7 +18,7 @@ part-result-end : tie.Need-part-result-end
 part-result-end c = search needs
 
 returns : tie.Need-returns
-returns c = search (rules-none, needs)
+returns c = rules-none _ _ _ _ _ (c .before .before .state-verdict .ensures) (c .before .if1 .taken) _ _ refl refl (omega arith)
 
 start-of-requires : tie.Need-start-of-requires
 start-of-requires c κs = search needs
