@@ -1,0 +1,5 @@
+pub mod Reading
+pub mod Finding
+pub mod Matches
+pub mod Turns
+pub mod Distinct
