@@ -1,0 +1,1 @@
+// No code: the definitions stand in specs/, the laws in proofs/.

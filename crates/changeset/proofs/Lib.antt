@@ -1,0 +1,5 @@
+pub mod Marks
+pub mod Loops
+pub mod Calls
+pub mod Distinct
+pub mod Sets

@@ -1,0 +1,4 @@
+pub mod Sets
+pub mod Joining
+pub mod Union
+pub mod Distinct

@@ -1,0 +1,33 @@
+-- Channels: 01, "Weight, winners, changes". A mask names the channels that its bits are. Assumes nothing.
+use mathlib.Core.Path.{_≡_, refl}
+use mathlib.Core.List.{List, [], _∷_}
+use Prim.Native.Nat.{ℕ}
+use lib.ListN.{getD}
+use lib.Bits.{bitOr}
+use Rattle.theory.specs.Lists.{select}
+use Rattle.bits.specs.Bits.{bit, bitsIn}
+use Rattle.channels.specs.declared.Lowest.{Lowest}
+use Rattle.channels.specs.declared.Lowest.the-variants as lowest
+
+-- "The channel set is the union of the u32 masks of the changed properties, from a lent table by id; past its end the mask is 0"
+abbrev pub unionFrom : ℕ → List ℕ → List ℕ → ℕ
+unionFrom set masks [] = set
+unionFrom set masks (p ∷ ids) = unionFrom (bitOr set (getD masks p 0)) masks ids
+
+unfoldable pub channelsOf : List ℕ → List ℕ → ℕ
+channelsOf masks ids = unionFrom 0 masks ids
+
+-- "Report .. which is lowest; with none there is no lowest": 1 and the channel, or 0
+abbrev pub lowestTold : Lowest → List ℕ
+lowestTold (lowest.Channel k) = 1 ∷ k ∷ []
+lowestTold lowest.Nothing = 0 ∷ []
+
+abbrev pub lowestOf : List ℕ → List ℕ
+lowestOf [] = 0 ∷ []
+lowestOf (k ∷ l) = 1 ∷ k ∷ []
+
+-- ---- for example: property 1 has no mask, property 0 names channels 0 and 2, property 2 channels 1 and 2
+
+sample : bitsIn (channelsOf (5 ∷ 0 ∷ 6 ∷ []) (0 ∷ 2 ∷ 9 ∷ [])) ≡ 0 ∷ 1 ∷ 2 ∷ []
+unfolding bitsIn channelsOf select bit
+sample = refl
