@@ -26,10 +26,6 @@ pub record Stays (n total : ℕ) (ends ends′ : ℕ → ℕ) (pool pool′ : Li
   pub same : (k : ℕ) → k < n → ends′ k ≡ ends k
   pub numbers : take total pool′ ≡ take total pool
 
-start-next : (ends : ℕ → ℕ) (n : ℕ) → startOf ends (n + 1) ≡ ends n
-unfolding startOf
-start-next ends n = rw (add-one n)
-
 -- ---- none, and each
 
 pub none-there : (ends : ℕ → ℕ) (pool : List ℕ) → EndToEnd ends 0 0 pool
@@ -109,12 +105,13 @@ module _ {ends ends′ : ℕ → ℕ} {n total : ℕ} {pool : List ℕ} (list : 
   more-stays = record { same = same; numbers = rw whole (take-at (take total pool) (list ++ drop (total + length list) pool) total (length-take-le total pool (e .room))) }
 
   pub more-end-to-end : EndToEnd ends′ (n + 1) (total + length list) (sets pool total list)
+  unfolding startOf
   more-end-to-end = record {
     rise = λ k h. elim (below k n h) [
       | inl l ↦ rw (stays-start more-stays k (omega arith), same k l) (e .rise k l)
       | inr q ↦ rw (q, new, stays-start more-stays n (omega arith), e .last) (omega arith)
     ];
-    last = start-next ends′ n ∙ new;
+    last = rw (add-one n) new;
     room = rw length-sets room;
   }
 

@@ -1,5 +1,5 @@
 -- A state more: by build, the root, and by entering. Assumes nothing.
-use mathlib.Core.Path.{_≡_, sym, _∙_}
+use mathlib.Core.Path.{_≡_, refl, sym, _∙_}
 use mathlib.Core.Bool.{true}
 use mathlib.Core.List.{List, [], _∷_}
 use Prim.Native.Nat.{ℕ, _+_, _-_, _*_, _≤_, _<_}
@@ -16,6 +16,7 @@ use Rattle.table.specs.Tables.{Table, selectorsOf, statesIn, cursorsIn, matched
 use Rattle.table.specs.Entering.{rootsOf, built, grown, grownHead, grownStates}
 use Rattle.table.proofs.Rooms.{RoomFor}
 use Rattle.covered.proofs.Known.{known-root, known-more}
+use Rattle.covered.proofs.Chained.{chained-none, chained-state}
 use Rattle.covered.proofs.Columns.{EndToEnd, none-there, more-stays, more-end-to-end, more-list}
 use Rattle.covered.proofs.Rows.{row-before, row-new}
 use Rattle.covered.proofs.Found.{state-is}
@@ -93,6 +94,7 @@ module _ (w : List ℕ) (t : Table) where
             known = rw e2 (known-more stepMatches (selectorsOf w) p x (s .known) (states-stay w s grown-stay) l (grown-new ∙ e) (λ k h q. none k h (q ∙ sym e)));
             moves = λ k h. leads-stay w s grown-stay (s .moves k (rw e5 at h));
             subjects = λ k h. s .subjects k (rw e5 at h);
+            chains = rw (e2, e5) (chained-state (s .chains) (λ k h. s .moves k h .parent) (end-before 2 (omega arith)) (end-new 2 (omega arith)));
           }
 
       pub grown-kept : Kept w t (grown t st)
@@ -102,6 +104,8 @@ module _ (w : List ℕ) (t : Table) where
         stamp = sets-before (t .head) 2 counts 0 (omega arith);
         ranking = sets-before (t .head) 2 counts 1 (omega arith);
         stay = grown-stay;
+        more-moves = rw (sets-after (t .head) 2 counts 5 (omega arith)) (omega arith);
+        moves = λ k h. record { words = λ c g ne. refl };
       }
 
   -- ---- by build
@@ -161,4 +165,5 @@ module _ (w : List ℕ) (t : Table) where
           known = rw e2 (known-root stepMatches (selectorsOf w) built-root);
           moves = λ k h. absurd (omega arith);
           subjects = λ k h. absurd (omega arith);
+          chains = rw (e2, e5) (unfold built in chained-none (λ p h. let z : p ≡ 0 = omega arith in rw z (built-end 2 (omega arith))));
         }

@@ -1,10 +1,11 @@
 -- A transition more, if there is room for it. Assumes nothing.
-use mathlib.Core.Path.{_≡_, refl, _∙_}
+use mathlib.Core.Path.{_≡_, refl, ap, _∙_}
 use mathlib.Core.Bool.{Bool, true, false, cond}
 use mathlib.Core.List.{List, _∷_}
-use mathlib.Core.Logic.{inl, inr}
+use mathlib.Core.Logic.{_⊎_, inl, inr, _≢_}
 use Prim.Native.Nat.{ℕ, _+_, _-_, _*_, _≤_, _<_}
 use native.Mathlib.Omega.{arith}
+use native.Mathlib.Decide.{ℕ-discrete}
 use lib.ListN.{length, getD, set, length-set}
 use lib.Seq.{length-sets, getD-set-same, getD-set-other}
 use lib.Dec.{ltb}
@@ -13,14 +14,16 @@ use Rattle.theory.proofs.Lists.{and-right}
 use Rattle.lent.specs.Pool.{addressOf, endsIn}
 use Rattle.selector.specs.Tags.{stepMatches}
 use Rattle.selector.specs.Rows.{rowAt}
-use Rattle.table.specs.Tables.{Table, selectorsOf, statesIn, transitionsIn, firstLink, parentAt, childAt, subjectOf}
+use Rattle.table.specs.Tables.{Table, selectorsOf, statesIn, transitionsIn, firstLink, parentAt, childAt, nextLink, subjectOf}
 use Rattle.table.specs.Entering.{transitionFits, leads, lastFrom, withRow, linkedState, linkedLast, hooked, kept}
+use Rattle.table.proofs.Chains.{leads-some}
 use Rattle.table.proofs.Shaped.{SubjectShaped}
 use Rattle.covered.proofs.Known.{below, known-same}
+use Rattle.covered.proofs.Chained.{On, here, Onward, Chained, on-then, on-more, chained-more, leads-not, Last, last-is}
 use Rattle.covered.proofs.Columns.{stays-end-to-end}
 use Rattle.covered.proofs.Rows.{row-before, row-new, SameRow, row-then, same-parent, same-child, same-subject, same-shaped, link-set, Fine, whole-parent, whole-child, whole-subject, whole-shaped}
 use Rattle.covered.proofs.Sound.{LeadsIn, Sound}
-use Rattle.covered.proofs.Keeps.{StatesStay, Kept, kept-none, states-stay, leads-stay, leads-cast}
+use Rattle.covered.proofs.Keeps.{StatesStay, Kept, Held, kept-none, states-stay, leads-stay, leads-cast}
 
 -- one transition more, and links set: no list of a state changes, and no earlier row but for its link
 record Hooked (t t′ : Table) (row : List ℕ) : Type 0 where
@@ -32,8 +35,10 @@ record Hooked (t t′ : Table) (row : List ℕ) : Type 0 where
   long : length (t′ .transitions) ≡ length (t .transitions)
   before : (k : ℕ) → k < transitionsIn (t .head) → SameRow (t′ .transitions) k (t .transitions) k
   new : SameRow (t′ .transitions) (transitionsIn (t .head)) row 0
+  chains : Chained (statesIn (t .head)) (transitionsIn (t .head) + 1) (firstLink (t′ .states)) (nextLink (t′ .transitions)) (parentAt (t′ .transitions))
 
-module _ (t : Table) (p child : ℕ) (row : List ℕ) (long : length row ≡ 38) (room : 41 * transitionsIn (t .head) + 41 ≤ length (t .transitions)) where
+module _ (w : List ℕ) (t : Table) (p child : ℕ) (row : List ℕ) (s : Sound w t) (parent : p < statesIn (t .head)) (long : length row ≡ 38)
+    (room : 41 * transitionsIn (t .head) + 41 ≤ length (t .transitions)) where
   abbrev rows : List ℕ
   rows = withRow (t .transitions) (transitionsIn (t .head)) p child row
 
@@ -47,9 +52,100 @@ module _ (t : Table) (p child : ℕ) (row : List ℕ) (long : length row ≡ 38)
         rw z (row-new 41 (transitionsIn (t .head)) (t .transitions) (p ∷ child ∷ 0 ∷ row) c (omega arith) (omega arith));
   }
 
+  -- ---- the chains
+
+  abbrev count : ℕ
+  count = transitionsIn (t .head)
+
+  abbrev next : ℕ → ℕ
+  next = nextLink (t .transitions)
+
+  next-before : (k : ℕ) → k < count → nextLink rows k ≡ next k
+  next-before k h = row-before 41 count (t .transitions) (p ∷ child ∷ 0 ∷ row) 2 (omega arith) k h
+
+  next-new : nextLink rows count ≡ 0
+  next-new = row-new 41 count (t .transitions) (p ∷ child ∷ 0 ∷ row) 2 (omega arith) (omega arith)
+
+  parents : (k : ℕ) → k < count → parentAt (t .transitions) k < statesIn (t .head)
+  parents k h = s .moves k h .parent
+
+  new-parent : {rows′ : List ℕ} → SameRow rows′ count (p ∷ child ∷ 0 ∷ row) 0 → parentAt rows′ count ≡ p
+  new-parent r = same-parent r ∙ whole-parent p child row
+
+  -- hooked to the state
+  module _ (e : leads count (firstLink (t .states) p) ≡ false) where
+    first-here : firstLink (linkedState (t .states) p count) p ≡ count + 1
+    unfolding endsIn
+    first-here = getD-set-same (t .states) (addressOf 2 3 p) (count + 1) 0 (omega (arith, s .rows))
+
+    first-other : (q : ℕ) → q ≢ p → firstLink (linkedState (t .states) p count) q ≡ firstLink (t .states) q
+    unfolding endsIn
+    first-other q ne = getD-set-other (t .states) (addressOf 2 3 p) (addressOf 2 3 q) (count + 1) 0 (λ z. ne (omega arith))
+
+    state-chains : Chained (statesIn (t .head)) (count + 1) (firstLink (linkedState (t .states) p count)) (nextLink rows) (parentAt rows)
+    state-chains = chained-more (s .chains) parents
+        (λ q h. elim (ℕ-discrete q p) [ yes z ↦ inl (rw z (leads-not count (firstLink (t .states) p) (s .chains .starts p parent) e)) | no z ↦ inr (first-other q z) ])
+        (λ q h. elim (ℕ-discrete q p) [ yes z ↦ omega (arith, ap (firstLink (linkedState (t .states) p count)) z, first-here) | no z ↦ omega (arith, first-other q z, s .chains .starts q h) ])
+        (λ k h. inr (next-before k h))
+        (λ k h. elim (below k count h) [
+          | inl l ↦ elim (s .chains .rises k l) [ inl z ↦ inl (next-before k l ∙ z) | inr r ↦ inr (omega (arith, next-before k l, r .0), omega (arith, next-before k l, r .1)) ]
+          | inr z ↦ inl (rw z next-new)
+        ])
+        (λ k h. same-parent (rows-before k h))
+        (rw (new-parent rows-new) (here first-here))
+
+  -- hooked to the last of the chain
+  module _ (e : leads count (firstLink (t .states) p) ≡ true) where
+    abbrev end : ℕ
+    end = lastFrom (t .transitions) count (firstLink (t .states) p) (count - 1)
+
+    abbrev linked : List ℕ
+    linked = linkedLast rows end count
+
+    end-is : Last (t .transitions) count (s .chains .rises) (firstLink (t .states) p) end
+    end-is = let g = leads-some count (firstLink (t .states) p) (leads count (firstLink (t .states) p)) refl e in last-is (t .transitions) count (s .chains .rises) (firstLink (t .states) p) (count - 1) e (omega arith)
+
+    next-here : nextLink linked (end - 1) ≡ count + 1
+    unfolding endsIn
+    next-here = getD-set-same rows (addressOf 2 41 (end - 1)) (count + 1) 0 (omega (arith, end-is .some, end-is .within, length-sets (t .transitions) (41 * count) (p ∷ child ∷ 0 ∷ row)))
+
+    next-other : (k : ℕ) → k ≢ end - 1 → nextLink linked k ≡ nextLink rows k
+    unfolding endsIn
+    next-other k ne = getD-set-other rows (addressOf 2 41 (end - 1)) (addressOf 2 41 k) (count + 1) 0 (λ z. ne (omega arith))
+
+    next-old : (k : ℕ) → k < count → (next k ≡ 0) ⊎ (nextLink linked k ≡ next k)
+    next-old k h = elim (ℕ-discrete k (end - 1)) [ yes z ↦ inl (rw z (end-is .ends)) | no z ↦ inr (next-other k z ∙ next-before k h) ]
+
+    next-rises : Onward (count + 1) (nextLink linked)
+    next-rises k h = elim (ℕ-discrete k (end - 1)) [
+      | yes z ↦ let q = ap (nextLink linked) z ∙ next-here in inr (omega (arith, q, end-is .some, end-is .within), omega (arith, q))
+      | no z ↦ elim (below k count h) [
+        | inl l ↦ elim (s .chains .rises k l) [
+          | inl q ↦ inl (next-other k z ∙ next-before k l ∙ q)
+          | inr r ↦ inr (omega (arith, next-other k z, next-before k l, r .0), omega (arith, next-other k z, next-before k l, r .1))
+        ]
+        | inr q ↦ inl (next-other k z ∙ rw q next-new)
+      ]
+    ]
+
+    linked-new : SameRow linked count (p ∷ child ∷ 0 ∷ row) 0
+    linked-new = row-then (link-set rows (end - 1) (count + 1) count) rows-new
+
+    linked-before : (k : ℕ) → k < count → SameRow linked k (t .transitions) k
+    linked-before k h = row-then (link-set rows (end - 1) (count + 1) k) (rows-before k h)
+
+    -- the chain goes on to it
+    comes : On (nextLink linked) count (firstLink (t .states) p)
+    comes = on-then (on-more (s .chains .rises) next-old (s .chains .starts p parent) (end-is .comes)) (here next-here)
+
+    last-chains : Chained (statesIn (t .head)) (count + 1) (firstLink (t .states)) (nextLink linked) (parentAt linked)
+    last-chains = chained-more (s .chains) parents (λ q h. inr refl) (λ q h. omega (arith, s .chains .starts q h)) next-old next-rises
+        (λ k h. same-parent (linked-before k h))
+        (rw (new-parent linked-new) comes)
+
   hooked-is : Hooked t (hooked t p child row) (p ∷ child ∷ 0 ∷ row)
   unfolding hooked endsIn
-  hooked-is = by (leads n first)
+  hooked-is = by (leads n first) refl
     where
       n : ℕ
       n = transitionsIn (t .head)
@@ -57,21 +153,22 @@ module _ (t : Table) (p child : ℕ) (row : List ℕ) (long : length row ≡ 38)
       first : ℕ
       first = firstLink (t .states) p
 
-      by : (b : Bool) → Hooked t (cond b
+      by : (b : Bool) → leads n first ≡ b → Hooked t (cond b
           (record { head = set (t .head) 5 (n + 1); states = t .states; cursors = t .cursors; matched = t .matched; transitions = linkedLast rows (lastFrom (t .transitions) n first (n - 1)) n })
           (record { head = set (t .head) 5 (n + 1); states = linkedState (t .states) p n; cursors = t .cursors; matched = t .matched; transitions = rows }))
           (p ∷ child ∷ 0 ∷ row)
-      by true = record {
+      by true e = record {
         head = refl;
         cursors = refl;
         matched = refl;
         rows = refl;
         ends = λ c h k. refl;
         long = length-set rows (addressOf 2 41 (lastFrom (t .transitions) n first (n - 1) - 1)) (n + 1) ∙ length-sets (t .transitions) (41 * n) (p ∷ child ∷ 0 ∷ row);
-        before = λ k h. row-then (link-set rows (lastFrom (t .transitions) n first (n - 1) - 1) (n + 1) k) (rows-before k h);
-        new = row-then (link-set rows (lastFrom (t .transitions) n first (n - 1) - 1) (n + 1) n) rows-new;
+        before = linked-before e;
+        new = linked-new e;
+        chains = last-chains e;
       }
-      by false = record {
+      by false e = record {
         head = refl;
         cursors = refl;
         matched = refl;
@@ -80,6 +177,7 @@ module _ (t : Table) (p child : ℕ) (row : List ℕ) (long : length row ≡ 38)
         long = length-sets (t .transitions) (41 * n) (p ∷ child ∷ 0 ∷ row);
         before = rows-before;
         new = rows-new;
+        chains = state-chains e;
       }
 
 module _ (w : List ℕ) {t t′ : Table} (p child : ℕ) (row : List ℕ) (s : Sound w t) (h : Hooked t t′ (p ∷ child ∷ 0 ∷ row))
@@ -140,7 +238,10 @@ module _ (w : List ℕ) {t t′ : Table} (p child : ℕ) (row : List ℕ) (s : S
           known = rw e2 (known-same stepMatches (selectorsOf w) (s .known) (states-stay w s hooked-stay));
           moves = λ k g. moved k g .0;
           subjects = λ k g. moved k g .1;
+          chains = rw (e2, head-rows) (h .chains);
         };
+        more-moves = rw head-rows (omega arith);
+        moves = h .before;
       }
 
 fits-room : (n room : ℕ) → transitionFits n room ≡ true → 41 * n + 41 ≤ room
@@ -158,5 +259,21 @@ row-kept w {t} p child row s f l = by (transitionFits (transitionsIn (t .head)) 
     by false e = (kept-none w s, refl)
     by true e =
         let room = fits-room (transitionsIn (t .head)) (length (t .transitions)) e in
-        let h = hooked-is t p child row (f .long) room in
+        let h = hooked-is w t p child row s (l .parent) (f .long) room in
         (hooked-kept w p child row s h room f l, head-kept w p child row s h room f l 2 (omega arith))
+
+-- with room it is held
+pub row-held : (w : List ℕ) {t : Table} (p child : ℕ) (row : List ℕ) → Sound w t → Fine row → LeadsIn w t p child (rowAt 16 row 0)
+    → transitionFits (transitionsIn (t .head)) (length (t .transitions)) ≡ true → Held (kept t p child row) p (rowAt 16 row 0) (transitionsIn (t .head))
+unfolding kept
+row-held w {t} p child row s f l e =
+    let room = fits-room (transitionsIn (t .head)) (length (t .transitions)) e in
+    let h = hooked-is w t p child row s (l .parent) (f .long) room in
+    let r = h .new in
+    let a : 41 * (0 + 1) ≤ length (p ∷ child ∷ 0 ∷ row) = omega (arith, f .long) in
+    let b : 41 * (transitionsIn (t .head) + 1) ≤ length (hooked t p child row .transitions) = omega (arith, h .long) in
+    rw e (record {
+      there = omega (arith, head-rows w p child row s h room f l);
+      parent = same-parent r ∙ whole-parent p child row;
+      subject = same-subject r b a (whole-shaped p child row f) ∙ whole-subject p child row;
+    })

@@ -1,13 +1,14 @@
--- What a call leaves: the invariant, the head's stamp and ranking, and the lists of the states that were there. Assumes nothing.
+-- What a call leaves: the invariant, the head's stamp and ranking, the lists of the states that were there, and the transitions. Assumes nothing.
 use mathlib.Core.Path.{_≡_, refl, _∙_}
 use mathlib.Core.List.{List}
-use Prim.Native.Nat.{ℕ, _≤_, _<_}
+use Prim.Native.Nat.{ℕ, _+_, _*_, _≤_, _<_}
 use native.Mathlib.Omega.{arith}
 use lib.ListN.{length}
 use Rattle.selector.specs.Tags.{Tags, stepMatches}
-use Rattle.table.specs.Tables.{Table, selectorsOf, stampIn, rankingIn, statesIn, cursorsIn, matchedIn, cursorEnds, matchedEnds, stateAt}
+use Rattle.table.specs.Tables.{Table, selectorsOf, stampIn, rankingIn, statesIn, cursorsIn, matchedIn, transitionsIn, cursorEnds, matchedEnds, stateAt, parentAt, subjectOf}
 use Rattle.covered.proofs.Known.{leads-same}
 use Rattle.covered.proofs.Columns.{Stays, stays-none, stays-then, stays-list}
+use Rattle.covered.proofs.Rows.{SameRow, row-then, same-parent, same-subject}
 use Rattle.covered.proofs.Found.{state-is}
 use Rattle.covered.proofs.Sound.{LeadsIn, Sound}
 
@@ -28,6 +29,9 @@ module _ (w : List ℕ) where
     pub stamp : stampIn (t′ .head) ≡ stampIn (t .head)
     pub ranking : rankingIn (t′ .head) ≡ rankingIn (t .head)
     pub stay : StatesStay t t′
+    -- and its transitions, but for their links
+    pub more-moves : transitionsIn (t .head) ≤ transitionsIn (t′ .head)
+    pub moves : (k : ℕ) → k < transitionsIn (t .head) → SameRow (t′ .transitions) k (t .transitions) k
 
   pub kept-none : {t : Table} → Sound w t → Kept t t
   kept-none {t} s = record {
@@ -44,6 +48,8 @@ module _ (w : List ℕ) where
       cursors = stays-none (statesIn (t .head)) (cursorsIn (t .head)) (cursorEnds (t .states)) (t .cursors);
       matched = stays-none (statesIn (t .head)) (matchedIn (t .head)) (matchedEnds (t .states)) (t .matched);
     };
+    more-moves = omega arith;
+    moves = λ k h. record { words = λ c g ne. refl };
   }
 
   pub kept-then : {t t′ t″ : Table} → Kept t t′ → Kept t′ t″ → Kept t t″
@@ -56,6 +62,8 @@ module _ (w : List ℕ) where
       let k = q .more-cursors in
       let l = p .more-matched in
       let m = q .more-matched in
+      let n = a .more-moves in
+      let o = b .more-moves in
       record {
         sound = b .sound;
         stamp = b .stamp ∙ a .stamp;
@@ -70,6 +78,8 @@ module _ (w : List ℕ) where
           cursors = stays-then h j (p .cursors) (q .cursors);
           matched = stays-then h l (p .matched) (q .matched);
         };
+        more-moves = omega arith;
+        moves = λ k i. row-then (b .moves k (omega arith)) (a .moves k i);
       }
 
   -- each state keeps its lists
@@ -81,3 +91,18 @@ module _ (w : List ℕ) where
 
   pub leads-cast : (t : Table) {p p′ k k′ : ℕ} {x x′ : Tags} → p′ ≡ p → k′ ≡ k → x′ ≡ x → LeadsIn w t p k x → LeadsIn w t p′ k′ x′
   leads-cast t a b c l = rw (a, b, c) l
+
+-- transition k is of the parent p and the subject x
+pub record Held (t : Table) (p : ℕ) (x : Tags) (k : ℕ) : Type 0 where
+  pub there : k < transitionsIn (t .head)
+  pub parent : parentAt (t .transitions) k ≡ p
+  pub subject : subjectOf (t .transitions) k ≡ x
+
+pub held-stays : (w : List ℕ) {t t′ : Table} {p k : ℕ} {x : Tags} → Sound w t → Kept w t t′ → Held t p x k → Held t′ p x k
+held-stays w {t} {t′} {k = k} s q h =
+    let l = h .there in
+    let m = q .more-moves in
+    let r = q .moves k l in
+    let a : 41 * (k + 1) ≤ length (t .transitions) = omega (arith, s .transitions) in
+    let b : 41 * (k + 1) ≤ length (t′ .transitions) = omega (arith, q .sound .transitions) in
+    record { there = omega arith; parent = same-parent r ∙ h .parent; subject = same-subject r b a (s .subjects k l) ∙ h .subject }

@@ -1,4 +1,5 @@
 pub mod Known
+pub mod Chained
 pub mod Columns
 pub mod Rows
 pub mod Found

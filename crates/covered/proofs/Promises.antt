@@ -13,7 +13,7 @@ use Rattle.selector.specs.Rows.{rowAt}
 use Rattle.selector.specs.Checks.{tagsAscend}
 use Rattle.typed.specs.declared.SelectorInputs.{SelectorInputs}
 use Rattle.typed.specs.Typed.{inputsTags, inputsRow, classNumber, pseudoNumber}
-use Rattle.table.specs.Tables.{Table, selectorsOf, stampIn, rankingIn, statesIn, matchedEnds, matchedAt, stateAt}
+use Rattle.table.specs.Tables.{Table, selectorsOf, stampIn, rankingIn, statesIn, transitionsIn, matchedEnds, matchedAt, stateAt}
 use Rattle.table.specs.Entering
 use Rattle.covered.specs.Covered.{Enters, Covered, After}
 use Rattle.covered.specs.Covered.Covered.{entered}
@@ -21,9 +21,9 @@ use Rattle.covered.specs.Covered.After.{none, more}
 use Rattle.covered.specs.Rooms.{Proper}
 use Rattle.covered.proofs.Columns.{stays-start, stays-part}
 use Rattle.covered.proofs.Sound.{LeadsIn}
-use Rattle.covered.proofs.Keeps.{Kept, kept-none, kept-then, states-stay, leads-stay}
-use Rattle.covered.proofs.Accepted.{row-tags, enter-accepted, enter-accepts}
-use Rattle.covered.proofs.Entering.{child-there, child-has-room}
+use Rattle.covered.proofs.Keeps.{Kept, Held, kept-none, kept-then, states-stay, leads-stay, held-stays}
+use Rattle.covered.proofs.Accepted.{row-tags, proper-fine, enter-accepted, enter-accepts}
+use Rattle.covered.proofs.Entering.{enter-holds, entered-again, child-there, child-has-room}
 use Rattle.covered.proofs.Reached.{covered-sound, enters-right}
 
 -- a subject with the same tags and ids as a proper one is proper
@@ -120,3 +120,12 @@ module _ (w : List ℕ) where
       -- and has the same child
       pub equal-child : Entering.childOf w t″ number (inputsRow y) ≡ Entering.childOf w t number (inputsRow x)
       equal-child = child-there w (kept .sound) number (leads .parent) (inputsRow y) k (leads .child) enters
+
+      -- and changes no word, where there was room for the transition of the first
+      pub equal-found : Entering.transitionFits (transitionsIn (t .head)) (length (t .transitions)) ≡ true → Entering.entered w t″ number (inputsRow y) ≡ t″
+      equal-found fits =
+          let e = enter-accepted w t number stamp x v in
+          let (i, h) = enter-holds w (covered-sound w c) number (e .there) (inputsRow x) (proper-fine (e .proper)) (e .room) fits in
+          let held : Held t′ number (inputsTags x) i = rw (row-tags (e .proper)) at h in
+          let later = held-stays w (covered-sound w (entered c number stamp x v)) kept held in
+          entered-again w (kept .sound) number (leads .parent) (inputsRow y) i (rw (row-tags proper, ← same) later)

@@ -31,7 +31,7 @@ use Rattle.made.specs.Made.{Made}
 use Rattle.made.proofs.Promises.{made-shaped}
 use Rattle.covered.specs.Covered.{Builds, Enters, Covered}
 use Rattle.covered.specs.Covered.Covered.{built}
-use Rattle.covered.specs.Rooms.{including, heldAlong, statesFor, numbersOf, Roomy, Proper, verdictsAlong}
+use Rattle.covered.specs.Rooms.{including, heldAlong, statesFor, numbersOf, Enough, Roomy, Proper, verdictsAlong}
 use Rattle.covered.proofs.Known.{below}
 use Rattle.covered.proofs.Sound.{Sound, cursor-exists, rule-exists}
 use Rattle.covered.proofs.Keeps.{StatesStay, states-stay}
@@ -68,13 +68,6 @@ module _ (w : List ℕ) where
 
   abbrev heldIn : Table → List State
   heldIn t = spread (stateAt t) 0 (statesIn (t .head))
-
-  -- room for all of these
-  record Enough (all : List State) (t : Table) : Type 0 where
-    few : length all ≤ 512
-    states : 3 * length all ≤ length (t .states)
-    cursors : numbersOf (λ s. s .cursors) all ≤ length (t .cursors)
-    matched : numbersOf (λ s. s .matched) all ≤ length (t .matched)
 
   enough-some : (all some more : List State) {t : Table} → all ≡ some ++ more → Enough all t → Enough some t
   enough-some all some more e n =
@@ -211,20 +204,12 @@ module _ (w : List ℕ) where
       matched = n .matched;
     }
 
-    enough : Enough (statesFor w (map inputsTags xs)) t
-    enough = record {
-      few = r .few;
-      states = r .states;
-      cursors = r .cursors;
-      matched = r .matched;
-    }
-
     -- room for the root, too
     pub rooms-build : sheetShape w ≡ true → (ranking : ℕ) → ranking ≤ 1 → length (t .head) ≡ 8 → Builds w ranking t
     unfolding buildVerdict Entering.rootLacksRoom firstOf
     rooms-build shape ranking ranks eight =
         let (more, q) = along-more (selectorsOf w) (map inputsTags xs) (root (selectorsOf w) ∷ []) (root (selectorsOf w)) in
-        let n = enough-some (statesFor w (map inputsTags xs)) (root (selectorsOf w) ∷ []) more q enough in (
+        let n = enough-some (statesFor w (map inputsTags xs)) (root (selectorsOf w) ∷ []) more q r in (
           eight,
           rw (
             shape,
@@ -243,7 +228,7 @@ module _ (w : List ℕ) where
         let b = Entering.built w stamp ranking t in
         let held : heldIn b ≡ root (selectorsOf w) ∷ [] = ap (spread (stateAt b) 0) (word 2 (omega arith)) ∙ ap (λ (z : State). z ∷ []) made in
         let all = ap₂ (λ (h : List State) (z : State). heldAlong (selectorsOf w) h z (map inputsTags xs)) held made in
-        along xs b 0 stamp (builds-sound w t stamp ranking (e, v)) (omega (arith, word 2 (omega arith))) (sym (word 0 (omega arith))) p (subst (λ (h : List State). Enough h b) (sym all) (built-enough stamp ranking enough))
+        along xs b 0 stamp (builds-sound w t stamp ranking (e, v)) (omega (arith, word 2 (omega arith))) (sym (word 0 (omega arith))) p (subst (λ (h : List State). Enough h b) (sym all) (built-enough stamp ranking r))
 
 -- every made sheet has a covered table: rooms for the root are enough
 pub made-covered : {w : List ℕ} → Made w → (t : Table) × Covered w t

@@ -15,10 +15,11 @@ use Rattle.theory.proofs.States.{tested, invariant, cursors-ascending, matched-
 use Rattle.selector.specs.Tags.{Tags, stepMatches}
 use Rattle.sheet.specs.Layout.{rulesIn}
 use Rattle.sheet.specs.Shape.{sheetShape}
-use Rattle.table.specs.Tables.{Table, selectorsOf, statesIn, cursorsIn, matchedIn, transitionsIn, rankingIn, cursorEnds, matchedEnds, stateAt, parentAt, childAt, subjectOf}
+use Rattle.table.specs.Tables.{Table, selectorsOf, statesIn, cursorsIn, matchedIn, transitionsIn, rankingIn, cursorEnds, matchedEnds, stateAt, firstLink, parentAt, childAt, nextLink, subjectOf}
 use Rattle.table.proofs.Selectors.{length-selectors, selectors-small}
 use Rattle.table.proofs.Shaped.{SubjectShaped, Shaped}
 use Rattle.covered.proofs.Known.{Known, Leads}
+use Rattle.covered.proofs.Chained.{Chained}
 use Rattle.covered.proofs.Columns.{EndToEnd, some-list}
 
 module _ (w : List ℕ) where
@@ -38,6 +39,7 @@ module _ (w : List ℕ) where
     pub known : Known stepMatches (selectorsOf w) (statesIn (t .head)) (stateAt t)
     pub moves : (k : ℕ) → k < transitionsIn (t .head) → LeadsIn t (parentAt (t .transitions) k) (childAt (t .transitions) k) (subjectOf (t .transitions) k)
     pub subjects : (k : ℕ) → k < transitionsIn (t .head) → SubjectShaped (t .transitions) k
+    pub chains : Chained (statesIn (t .head)) (transitionsIn (t .head)) (firstLink (t .states)) (nextLink (t .transitions)) (parentAt (t .transitions))
 
   -- ---- the lists of a state after a path exist
 

@@ -1,12 +1,13 @@
 -- The tables and states that demand 3 speaks of, by the calls alone. Assumes nothing.
 use mathlib.Core.Path.{_≡_}
+use mathlib.Core.Logic.{_≢_}
 use mathlib.Core.List.{List, [], _∷_, _++_}
-use Prim.Native.Nat.{ℕ}
+use Prim.Native.Nat.{ℕ, _+_, _<_}
 use lib.ListN.{length}
 use Rattle.selector.specs.Tags.{Tags}
 use Rattle.typed.specs.declared.SelectorInputs.{SelectorInputs}
 use Rattle.typed.specs.Typed.{inputsTags, inputsRow}
-use Rattle.table.specs.Tables.{Table}
+use Rattle.table.specs.Tables.{Table, statesIn, stateAt}
 use Rattle.table.specs.Entering
 use Rattle.table.specs.Calls.{buildVerdict, enterVerdict}
 
@@ -39,3 +40,9 @@ module _ (w : List ℕ) where
   pub data After (t : Table) : Table → Type 0 where
     none : After t t
     more : {t′ : Table} → After t t′ → (number stamp : ℕ) (x : SelectorInputs) → Enters w t′ number stamp x → After t (Entering.entered w t′ number (inputsRow x))
+
+-- 01, "States": "An equal state already held is reused; otherwise it gets the next number." Of an entering from t to t′ that answers k: the child is the
+-- state that t′ has under k
+pub data Numbered (t t′ : Table) (k : ℕ) : Type 0 where
+  reused : k < statesIn (t .head) → stateAt t k ≡ stateAt t′ k → statesIn (t′ .head) ≡ statesIn (t .head) → Numbered t t′ k
+  next : ((i : ℕ) → i < statesIn (t .head) → stateAt t i ≢ stateAt t′ k) → k ≡ statesIn (t .head) → statesIn (t′ .head) ≡ statesIn (t .head) + 1 → Numbered t t′ k

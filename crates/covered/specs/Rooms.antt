@@ -1,4 +1,4 @@
--- Room for a path, and what its enterings answer. Assumes nothing.
+-- Room for a path, and what its enterings answer and leave. Assumes nothing.
 use mathlib.Core.Path.{_≡_}
 use mathlib.Core.Bool.{Bool, true, false, _&&_, _||_, cond}
 use mathlib.Core.List.{List, [], _∷_, _++_}
@@ -41,12 +41,16 @@ abbrev pub numbersOf : (State → List ℕ) → List State → ℕ
 numbersOf f [] = 0
 numbersOf f (s ∷ held) = length (f s) + numbersOf f held
 
+-- room for all of these states
+pub record Enough (all : List State) (t : Table) : Type 0 where
+  pub few : length all ≤ 512
+  pub states : 3 * length all ≤ length (t .states)
+  pub cursors : numbersOf (λ s. s .cursors) all ≤ length (t .cursors)
+  pub matched : numbersOf (λ s. s .matched) all ≤ length (t .matched)
+
 -- Rooms that suffice, from the sheet and the path
-pub record Roomy (w : List ℕ) (path : List Tags) (t : Table) : Type 0 where
-  pub few : length (statesFor w path) ≤ 512
-  pub states : 3 * length (statesFor w path) ≤ length (t .states)
-  pub cursors : numbersOf (λ s. s .cursors) (statesFor w path) ≤ length (t .cursors)
-  pub matched : numbersOf (λ s. s .matched) (statesFor w path) ≤ length (t .matched)
+abbrev pub Roomy : List ℕ → List Tags → Table → Type 0
+Roomy w path t = Enough (statesFor w path) t
 
 -- a subject that refusals 2 and 1 let pass
 pub record Proper (x : SelectorInputs) : Type 0 where
@@ -60,3 +64,12 @@ unfoldable pub verdictsAlong : List ℕ → Table → ℕ → ℕ → List Selec
 verdictsAlong w t number stamp [] = []
 verdictsAlong w t number stamp (x ∷ path) =
     enterVerdict w t number stamp (inputsRow x) ∷ verdictsAlong w (entered w t number (inputsRow x)) (childOf w t number (inputsRow x)) stamp path
+
+-- the table after all of them, and the last child
+unfoldable pub tableAlong : List ℕ → Table → ℕ → List SelectorInputs → Table
+tableAlong w t number [] = t
+tableAlong w t number (x ∷ path) = tableAlong w (entered w t number (inputsRow x)) (childOf w t number (inputsRow x)) path
+
+unfoldable pub numberAlong : List ℕ → Table → ℕ → List SelectorInputs → ℕ
+numberAlong w t number [] = number
+numberAlong w t number (x ∷ path) = numberAlong w (entered w t number (inputsRow x)) (childOf w t number (inputsRow x)) path

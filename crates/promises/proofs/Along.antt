@@ -12,20 +12,12 @@ use Rattle.typed.specs.declared.SelectorInputs.{SelectorInputs}
 use Rattle.typed.specs.Typed.{inputsTags, inputsRow}
 use Rattle.table.specs.Tables.{Table}
 use Rattle.table.specs.Entering.{entered, childOf}
-use Rattle.covered.specs.Covered.{Enters, Reached}
+use Rattle.covered.specs.Covered.{Enters, Reached, After}
 use Rattle.covered.specs.Covered.Reached.{root, child, later}
-use Rattle.covered.specs.Rooms.{Proper, verdictsAlong}
+use Rattle.covered.specs.Covered.After.{more}
+use Rattle.covered.specs.Rooms.{Proper, verdictsAlong, tableAlong, numberAlong}
 use Rattle.covered.proofs.Accepted.{enter-accepted}
 use Rattle.covered.proofs.Promises.{equal-proper}
-
--- the table after all of them, and the last child
-unfoldable pub tableAlong : List ℕ → Table → ℕ → List SelectorInputs → Table
-tableAlong w t number [] = t
-tableAlong w t number (x ∷ xs) = tableAlong w (entered w t number (inputsRow x)) (childOf w t number (inputsRow x)) xs
-
-unfoldable pub numberAlong : List ℕ → Table → ℕ → List SelectorInputs → ℕ
-numberAlong w t number [] = number
-numberAlong w t number (x ∷ xs) = numberAlong w (entered w t number (inputsRow x)) (childOf w t number (inputsRow x)) xs
 
 map-in : {A B : Type 0} (f : A → B) (l : List A) (x : A) → x ∈ l → f x ∈ map f l
 map-in f [] x m = absurd (List·Memᴰ·not-nil m)
@@ -40,6 +32,13 @@ module _ {w : List ℕ} where
       let v : Enters w t number stamp x = ap (λ (l : List ℕ). getD l 0 0) e in
       let step = along-reached xs (child r x v) (ap (drop 1) e) in
       subst (Reached w (tableAlong w (entered w t number (inputsRow x)) (childOf w t number (inputsRow x)) xs) (numberAlong w (entered w t number (inputsRow x)) (childOf w t number (inputsRow x)) xs) stamp) (append-snoc path (inputsTags x) (map inputsTags xs)) step
+
+  -- and the table after is one after accepted enterings
+  pub along-after : (xs : List SelectorInputs) {z t : Table} (number stamp : ℕ) → After w z t → verdictsAlong w t number stamp xs ≡ replicate (length xs) 0 → After w z (tableAlong w t number xs)
+  unfolding tableAlong verdictsAlong
+  along-after [] number stamp a e = a
+  along-after (x ∷ xs) {t = t} number stamp a e =
+      let v : Enters w t number stamp x = ap (λ (l : List ℕ). getD l 0 0) e in along-after xs (childOf w t number (inputsRow x)) stamp (more a number stamp x v) (ap (drop 1) e)
 
   -- each element of a path that reached a state is that of a subject with counts and ids in order
   reached-subject : {t : Table} {number stamp : ℕ} {path : List Tags} → Reached w t number stamp path → (z : Tags) → z ∈ path → (x : SelectorInputs) × Proper x × (inputsTags x ≡ z)

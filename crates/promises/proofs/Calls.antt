@@ -1,39 +1,43 @@
 -- From the public calls' contracts to covered tables and reached states: t is the memory that a call gets, t′ the memory that it leaves. Assumes nothing.
 use mathlib.Core.Path.{_≡_, sym, ap, _∙_, subst}
-use mathlib.Core.Logic.{_⊎_}
+use mathlib.Core.Bool.{true}
+use mathlib.Core.Logic.{_↔_}
 use mathlib.Core.List.{List, [], _∷_, _++_}
 use Prim.Native.Nat.{ℕ, _+_, _*_, _<_}
 use native.Mathlib.Omega.{arith}
 use lib.ListN.{length}
 use borrow.Author.Tests.{lt-ltb, eq-eqb}
 use denote.Ref.{RefT}
-use Rattle.theory.specs.Lists.{select}
-use Rattle.theory.specs.States.{rule}
+use Rattle.theory.specs.Lists.{_∈_, Ascending, select}
+use Rattle.theory.specs.Paths.{FitsTail}
+use Rattle.theory.specs.States.{rule, enter}
 use Rattle.theory.proofs.Decide.{fitsTail}
 use Rattle.lent.specs.Pool.{startOf}
-use Rattle.lent.specs.Refusals.{answered, firstOf}
+use Rattle.lent.specs.Refusals.{firstOf}
 use Rattle.lent.specs.declared.Refusal.{Refusal}
 use Rattle.selector.specs.Tags.{Tags, stepMatches}
 use Rattle.typed.specs.declared.SelectorInputs.{SelectorInputs}
 use Rattle.typed.specs.Typed.{inputsTags, inputsRow}
 use Rattle.sheet.specs.Layout.{rulesIn}
-use Rattle.table.specs.Tables.{Table, selectorsOf, stampIn, statesIn, matchedEnds}
+use Rattle.table.specs.Tables.{Table, selectorsOf, stampIn, statesIn, transitionsIn, matchedEnds, stateAt}
+use Rattle.table.specs.Entering as Memory
+use Rattle.table.specs.Entering.{transitionFits}
 use Rattle.table.specs.Calls.{notAState, stateVerdict}
-use Rattle.matcher.specs.Answers.{Build, Enter, Rules, listingTold}
+use Rattle.matcher.specs.Answers.{Build, Enter, Part, Rules}
 use Rattle.matcher.specs.declared.MatchState.{MatchState}
 use Rattle.matcher.specs.declared.Building.{Building}
 use Rattle.matcher.specs.declared.Entering.{Entering}
 use Rattle.matcher.specs.declared.Listing.{Listing}
 use Rattle.matcher.proofs.Answers.{built-is, build-refused-is, entered-is, enter-refused-is}
-use Rattle.matcher.proofs.Distinct.{listing-distinct}
-use Rattle.covered.specs.Covered.{Covered, Reached, After}
+use Rattle.matcher.proofs.Distinct.{entering-distinct, listing-distinct}
+use Rattle.covered.specs.Covered.{Covered, Reached, After, Numbered}
 use Rattle.covered.specs.Covered.Covered.{built, entered}
 use Rattle.covered.specs.Covered.Reached.{root, child, later}
 use Rattle.covered.specs.Covered.After.{more}
 use Rattle.covered.proofs.Growing.{built-word}
 use Rattle.covered.proofs.Accepted.{build-accepted}
 use Rattle.covered.proofs.Reached.{reached-covered, reached-is}
-use Rattle.promises.proofs.Listed.{listed-is, next-number, covered-in-shape}
+use Rattle.promises.proofs.Listed.{listed-exactly, listed-ascending, listed-is, equal-subjects-one-child, kept-found, child-state, next-number, covered-in-shape}
 
 module _ {w : List ℕ} where
   -- ---- `build`, where it answers Built
@@ -57,37 +61,75 @@ module _ {w : List ℕ} where
     pub refused-build-covers : Covered w t → Covered w t′
     refused-build-covers c = subst (Covered w) (sym (build-refused-is b)) c
 
+    pub refused-build-after : {z : Table} → After w z t → After w z t′
+    refused-build-after {z} a = subst (After w z) (sym (build-refused-is b)) a
+
     pub refused-build-keeps : {k kstamp : ℕ} {path : List Tags} → Reached w t k kstamp path → Reached w t′ k kstamp path
     refused-build-keeps {k} {kstamp} {path} p = subst (λ (z : Table). Reached w z k kstamp path) (sym (build-refused-is b)) p
 
   -- ---- `enter`: "refused calls and calls in between may not disturb it"
 
+  -- where it refuses, of whatever sheet, parent and subject, nothing is disturbed
+  module _ {v : List ℕ} {t t′ : Table} {number stamp : ℕ} {row : List ℕ} {y : Refusal} (u : Enter v t number stamp row (Entering.Refused y) t′) where
+    pub refused-enter-covers : Covered w t → Covered w t′
+    refused-enter-covers c = subst (Covered w) (sym (enter-refused-is u)) c
+
+    pub refused-enter-after : {z : Table} → After w z t → After w z t′
+    refused-enter-after {z} a = subst (After w z) (sym (enter-refused-is u)) a
+
+    pub refused-enter-keeps : {k kstamp : ℕ} {path : List Tags} → Reached w t k kstamp path → Reached w t′ k kstamp path
+    refused-enter-keeps {k} {kstamp} {path} p = subst (λ (z : Table). Reached w z k kstamp path) (sym (enter-refused-is u)) p
+
   module _ {t t′ : Table} {number stamp : ℕ} (x : SelectorInputs) where
     -- whatever it answers, a covered table stays covered,
     pub enter-covers : {r : Entering} → Covered w t → Enter w t number stamp (inputsRow x) r t′ → Covered w t′
     enter-covers {r = Entering.Entered s} c u = let (v, _, _, e) = entered-is u in subst (Covered w) (sym e) (entered c number stamp x v)
-    enter-covers {r = Entering.Refused y} c u = subst (Covered w) (sym (enter-refused-is u)) c
+    enter-covers {r = Entering.Refused y} c u = refused-enter-covers u c
 
     -- it is one of the accepted calls after which states are kept, or none,
     pub enter-after : {u : Table} {r : Entering} → After w u t → Enter w t number stamp (inputsRow x) r t′ → After w u t′
     enter-after {u = u} {r = Entering.Entered s} a c = let (v, _, _, e) = entered-is c in subst (After w u) (sym e) (more a number stamp x v)
-    enter-after {u = u} {r = Entering.Refused y} a c = subst (After w u) (sym (enter-refused-is c)) a
+    enter-after {u = u} {r = Entering.Refused y} a c = refused-enter-after c a
 
     -- and a reached state stays reached;
     pub enter-keeps : {k kstamp : ℕ} {path : List Tags} {r : Entering} → Reached w t k kstamp path → Enter w t number stamp (inputsRow x) r t′ → Reached w t′ k kstamp path
     enter-keeps {k = k} {kstamp = kstamp} {path = path} {r = Entering.Entered s} p u =
         let (v, _, _, e) = entered-is u in subst (λ (z : Table). Reached w z k kstamp path) (sym e) (later p number stamp x v)
-    enter-keeps {k = k} {kstamp = kstamp} {path = path} {r = Entering.Refused y} p u = subst (λ (z : Table). Reached w z k kstamp path) (sym (enter-refused-is u)) p
+    enter-keeps {r = Entering.Refused y} p u = refused-enter-keeps u p
 
     -- the state that it answers is reached by one element more
     pub enter-reaches : {path : List Tags} {s : MatchState} → Reached w t number stamp path → Enter w t number stamp (inputsRow x) (Entering.Entered s) t′
         → Reached w t′ (s .number) (s .stamp) (path ++ inputsTags x ∷ [])
     enter-reaches p u = let (v, n, m, e) = entered-is u in rw (n, m, e) (child p x v)
 
-    -- it has the number of a state there, or the next one
-    pub enter-numbers : {s : MatchState} → Covered w t → Enter w t number stamp (inputsRow x) (Entering.Entered s) t′
-        → ((s .number < statesIn (t .head)) × (statesIn (t′ .head) ≡ statesIn (t .head))) ⊎ ((s .number ≡ statesIn (t .head)) × (statesIn (t′ .head) ≡ statesIn (t .head) + 1))
+    -- that state is the subject's under the parent,
+    pub enter-state : {s : MatchState} → Covered w t → Enter w t number stamp (inputsRow x) (Entering.Entered s) t′
+        → stateAt t′ (s .number) ≡ enter stepMatches (selectorsOf w) (stateAt t number) (inputsTags x)
+    enter-state c u = let (v, n, _, e) = entered-is u in rw (n, e) (child-state c number stamp x v)
+
+    -- and it has the number of an equal state held before or, where none is equal, the next one
+    pub enter-numbers : {s : MatchState} → Covered w t → Enter w t number stamp (inputsRow x) (Entering.Entered s) t′ → Numbered t t′ (s .number)
     enter-numbers c u = let (v, n, _, e) = entered-is u in rw (n, e) (next-number c number stamp x v)
+
+  -- "two entries of equal subjects from one parent give one child": x is entered, then anything else, then y from the same parent
+  module _ {t t′ t″ t‴ : Table} {number stamp : ℕ} (x y : SelectorInputs) (same : inputsTags x ≡ inputsTags y) {s : MatchState} {r : Entering} (c : Covered w t)
+      (u : Enter w t number stamp (inputsRow x) (Entering.Entered s) t′) (a : After w t′ t″) (u′ : Enter w t″ number stamp (inputsRow y) r t‴) where
+    after-x : After w (Memory.entered w t number (inputsRow x)) t″
+    after-x = let (_, _, _, e) = entered-is u in subst (λ (z : Table). After w z t″) e a
+
+    -- the answer is the same,
+    pub same-answer : r ≡ Entering.Entered s
+    same-answer =
+        let (v, n, m, _) = entered-is u in
+        let (ok, k) = equal-subjects-one-child c number stamp x v y same after-x in
+        entering-distinct r (Entering.Entered s) (rw (ok, k) at (u′ .answer) ∙ rw (n, m))
+
+    -- and where there was room to keep the transition of x, the second entering changes no word
+    pub same-memory : transitionFits (transitionsIn (t .head)) (length (t .transitions)) ≡ true → t‴ ≡ t″
+    same-memory room =
+        let (v, _, _, _) = entered-is u in
+        let (ok, _) = equal-subjects-one-child c number stamp x v y same after-x in
+        rw ok at (u′ .memory) ∙ kept-found c number stamp x v room y same after-x
 
   -- ---- the matched list of a reached state
 
@@ -99,16 +141,27 @@ module _ {w : List ℕ} where
         let (l, e, _) = reached-is w p in
         rw (covered-in-shape (reached-covered w p), eq-eqb stamp (stampIn (t .head)) e, lt-ltb number (statesIn (t .head)) l)
 
-    -- `matching_rules`, by its contract: the numbers that it gives are the rules that fit,
+    -- `matching_rules`, by its contract
     module _ {whole part : RefT (List ℕ)} (g : Rules w t number stamp whole part) where
+      given : part .now ≡ stateAt t number .matched
+      given = rw reached-accepted at (g .numbers)
+
+      -- it gives exactly the rules whose selector isn't empty and fits some tail of the path,
+      pub rules-exactly : (k : ℕ) → (k ∈ part .now) ↔ ((0 < length (rule (selectorsOf w) k)) × FitsTail stepMatches (rule (selectorsOf w) k) path)
+      rules-exactly k = rw given (listed-exactly p k)
+
+      -- ascending, each once:
+      pub rules-ascending : Ascending (part .now)
+      rules-ascending = rw given (listed-ascending p)
+
+      -- of the sheet's rules those that pass the test, in order
       pub rules-given : part .now ≡ select (λ k. fitsTail stepMatches (rule (selectorsOf w) k) path) (rulesIn w)
-      rules-given = rw reached-accepted at (g .numbers) ∙ listed-is p
+      rules-given = given ∙ listed-is p
 
       -- "handed back as the part of the lent buffer that holds it": it stands where they stand in the buffer
       pub rules-place : (part .ptr .0 ≡ whole .ptr .0) × (part .ptr .1 ≡ whole .ptr .1 + 4 * startOf (matchedEnds (t .states)) number)
-      rules-place = g .place reached-accepted
+      rules-place = (g .block, rw reached-accepted at (g .place))
 
     -- `matching_part`: what it answers is where they stand
-    pub part-given : (r : Listing) → listingTold r ≡ answered (stateVerdict w t number stamp) (0 ∷ startOf (matchedEnds (t .states)) number ∷ matchedEnds (t .states) number ∷ [])
-        → r ≡ Listing.Part (startOf (matchedEnds (t .states)) number) (matchedEnds (t .states) number)
-    part-given r e = listing-distinct r (Listing.Part (startOf (matchedEnds (t .states)) number) (matchedEnds (t .states) number)) (rw reached-accepted at e)
+    pub part-given : {r : Listing} → Part w t number stamp r → r ≡ Listing.Part (startOf (matchedEnds (t .states)) number) (matchedEnds (t .states) number)
+    part-given {r} g = listing-distinct r (Listing.Part (startOf (matchedEnds (t .states)) number) (matchedEnds (t .states) number)) (rw reached-accepted at (g .answer))

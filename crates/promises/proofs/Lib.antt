@@ -1,7 +1,12 @@
 pub mod Along
 pub mod Listed
 pub mod Calls
+pub mod Places
+pub mod Winning
+pub mod Changing
+pub mod CascadeCalls
 pub mod WalkExample
 pub mod WalkSteps
 pub mod WalkRun
 pub mod WalkSheet
+pub mod WalkWinners

@@ -5,15 +5,15 @@
 -- `w` is the words of the sheet, the same at every call: "unwritten since". That it was "made by accepted pushes" is asked only where build has to
 -- accept it: any sheet that build accepts will do.
 use mathlib.Core.Path.{_≡_, sym, _∙_}
-use mathlib.Core.Bool.{false}
-use mathlib.Core.Logic.{_↔_, _⊎_, inl, inr}
+use mathlib.Core.Bool.{true, false}
+use mathlib.Core.Logic.{_↔_, inl, inr}
 use mathlib.Core.List.{List, map}
-use Prim.Native.Nat.{ℕ, _+_, _≤_, _<_}
+use Prim.Native.Nat.{ℕ, _≤_, _<_}
 use native.Mathlib.Omega.{arith}
 use lib.ListN.{length, replicate}
 use Rattle.theory.specs.Lists.{_∈_, Ascending, select}
 use Rattle.theory.specs.Paths.{FitsTail}
-use Rattle.theory.specs.States.{rule, run}
+use Rattle.theory.specs.States.{rule, enter}
 use Rattle.theory.proofs.Decide.{fitsTail}
 use Rattle.lent.specs.Pool.{startOf, listAt}
 use Rattle.selector.specs.Tags.{Tags, stepMatches}
@@ -22,18 +22,19 @@ use Rattle.typed.specs.Typed.{inputsTags, inputsRow}
 use Rattle.sheet.specs.Layout.{rulesIn}
 use Rattle.made.specs.Made.{Made}
 use Rattle.made.proofs.Promises.{made-shaped}
-use Rattle.table.specs.Tables.{Table, selectorsOf, statesIn, matchedEnds, matchedAt, stateAt}
-use Rattle.table.specs.Entering.{built, entered, childOf}
+use Rattle.table.specs.Tables.{Table, selectorsOf, statesIn, transitionsIn, matchedEnds, matchedAt, stateAt}
+use Rattle.table.specs.Entering.{transitionFits, built, entered, childOf}
 use Rattle.table.specs.Calls.{broken}
-use Rattle.covered.specs.Covered.{Builds, Enters, Covered, Reached, After}
+use Rattle.covered.specs.Covered.{Builds, Enters, Covered, Reached, After, Numbered}
+use Rattle.covered.specs.Covered.Numbered.{reused, next}
 use Rattle.covered.specs.Covered.Reached.{root}
-use Rattle.covered.specs.Rooms.{Roomy, Proper, verdictsAlong}
+use Rattle.covered.specs.Rooms.{Roomy, Proper, verdictsAlong, tableAlong, numberAlong}
 use Rattle.covered.proofs.Known.{below}
 use Rattle.covered.proofs.Keeps.{states-stay}
 use Rattle.covered.proofs.Reached as States
 use Rattle.covered.proofs.Promises as Left
 use Rattle.covered.proofs.Rooms.{rooms-build, rooms-suffice}
-use Rattle.promises.proofs.Along.{tableAlong, numberAlong, along-reached, reached-proper}
+use Rattle.promises.proofs.Along.{along-reached, reached-proper}
 
 module _ {w : List ℕ} where
   -- ---- "for a state reached since from the root by a path of one or more elements"; the root, reached by none, lists nothing
@@ -52,12 +53,8 @@ module _ {w : List ℕ} where
     listed-is = States.listed-is w r
 
   -- states of one table that have the same cursors and rules are one state
-  pub equal-lists-one-state : {t : Table} {a b stamp stamp′ : ℕ} {path path′ : List Tags} → Reached w t a stamp path → Reached w t b stamp′ path′
-      → run stepMatches (selectorsOf w) path ≡ run stepMatches (selectorsOf w) path′ → a ≡ b
-  equal-lists-one-state {a = a} {b = b} p q e =
-      let (l, _, f) = States.reached-is w p in
-      let (m, _, g) = States.reached-is w q in
-      States.covered-sound w (States.reached-covered w p) .known .distinct a b l m (f ∙ e ∙ sym g)
+  pub equal-lists-one-state : {t : Table} → Covered w t → (i j : ℕ) → i < statesIn (t .head) → j < statesIn (t .head) → stateAt t i ≡ stateAt t j → i ≡ j
+  equal-lists-one-state c = States.covered-sound w c .known .distinct
 
   -- ---- "A fresh table of the same sheet and ranking, with room, gives that path the same rules, whatever the numbers"
 
@@ -122,19 +119,27 @@ module _ {w : List ℕ} where
         → Enters w t′ number stamp y × (childOf w t′ number (inputsRow y) ≡ childOf w t number (inputsRow x))
     equal-subjects-one-child y same a = (Left.equal-enters w c number stamp x v y same a, Left.equal-child w c number stamp x v y same a)
 
-    -- ---- 01, "States": "An equal state already held is reused; otherwise it gets the next number."
+    -- 01: "An accepted entering keeps its transition if not yet held and there is room": with that room y is found again, and no word changes
+    pub kept-found : transitionFits (transitionsIn (t .head)) (length (t .transitions)) ≡ true → (y : SelectorInputs) → inputsTags x ≡ inputsTags y
+        → {t′ : Table} → After w (entered w t number (inputsRow x)) t′ → entered w t′ number (inputsRow y) ≡ t′
+    kept-found room y same a = Left.equal-found w c number stamp x v y same a room
 
-    pub next-number : ((childOf w t number (inputsRow x) < statesIn (t .head)) × (statesIn (entered w t number (inputsRow x) .head) ≡ statesIn (t .head)))
-        ⊎ ((childOf w t number (inputsRow x) ≡ statesIn (t .head)) × (statesIn (entered w t number (inputsRow x) .head) ≡ statesIn (t .head) + 1))
+    -- ---- 01, "States": the child is the state of the subject under the parent, and "An equal state already held is reused; otherwise it gets the next number."
+
+    pub child-state : stateAt (entered w t number (inputsRow x)) (childOf w t number (inputsRow x)) ≡ enter stepMatches (selectorsOf w) (stateAt t number) (inputsTags x)
+    child-state = Left.child-is w c number stamp x v
+
+    pub next-number : Numbered t (entered w t number (inputsRow x)) (childOf w t number (inputsRow x))
     next-number =
         let k = childOf w t number (inputsRow x) in
         let s = States.covered-sound w c in
         let g = States.enters-right w s number stamp x v in
+        let old = states-stay w s (g .kept .stay) in
         elim (g .grows) [
-          | inl q ↦ inl (omega (arith, g .leads .child), q)
+          | inl q ↦ let l : k < statesIn (t .head) = omega (arith, g .leads .child) in reused l (sym (old k l)) q
           | inr (q, new) ↦ elim (below k (statesIn (t .head)) (omega (arith, g .leads .child))) [
-            | inl l ↦ absurd (new k l (sym (states-stay w s (g .kept .stay) k l) ∙ Left.child-is w c number stamp x v))
-            | inr e ↦ inr (e, q)
+            | inl l ↦ absurd (new k l (sym (old k l) ∙ child-state))
+            | inr e ↦ next (λ i l z. new i l (z ∙ child-state)) e q
           ]
         ]
 

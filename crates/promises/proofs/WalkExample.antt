@@ -1,28 +1,21 @@
 -- 01's `walk` example as an instance of the theorem on lists, whatever the table; and P8. Assumes nothing.
 use mathlib.Core.Path.{_≡_, refl, sym, ap, _∙_}
-use mathlib.Core.Option.{none, some}
 use mathlib.Core.List.{List, [], _∷_, flatMap}
 use mathlib.Core.Logic.{_≢_}
 use Prim.Native.Nat.{ℕ, _+_, _*_}
 use native.Mathlib.Omega.{arith}
 use lib.ListN.{length}
 use Rattle.theory.specs.Lists.{_∈_, contained, insert, sort, select}
-use Rattle.theory.specs.Paths.{Comb, child, descendant, Part, done, here}
+use Rattle.theory.specs.Paths.{child, done, here}
 use Rattle.theory.specs.States.{Sheet, State, rule, enter, run}
 use Rattle.theory.proofs.Decide.{fitsTail}
 use Rattle.selector.specs.Tags.{Tags, tagOk, stepMatches}
 use Rattle.table.specs.Tables.{Table, selectorsOf, stateAt}
 use Rattle.table.proofs.Selectors.{length-selectors}
 use Rattle.covered.specs.Covered.{Reached}
-use Rattle.covered.proofs.Reached.{reached-is}
+use Rattle.covered.proofs.Reached.{reached-covered, reached-is}
+use Rattle.promises.specs.Walk.{typed, step, walk, after}
 use Rattle.promises.proofs.Listed.{listed-exactly, listed-is, equal-lists-one-state}
-
--- a subject that has a type alone; a step that asks for it
-abbrev pub typed : ℕ → Tags
-typed n = record { type = some n; part = none; classes = []; pseudos = [] }
-
-abbrev pub step : Comb → ℕ → Part Tags
-step c n = record { comb = c; step = typed n }
 
 -- the rules that a path has in a sheet of these selectors
 abbrev rulesOn : Sheet Tags → List Tags → List ℕ
@@ -32,12 +25,14 @@ lists : (sheet : Sheet Tags) {w : List ℕ} → selectorsOf w ≡ sheet → {t :
     → stateAt t number .matched ≡ rulesOn sheet path
 lists sheet {w} e {path = path} r = listed-is r ∙ ap (select (λ k. fitsTail stepMatches (rule (selectorsOf w) k) path)) (sym (length-selectors w)) ∙ ap (λ (s : Sheet Tags). rulesOn s path) e
 
--- ---- "rule with step type 5 ..; rule with step type 1, descendant step type 5"
-
-abbrev pub walk : Sheet Tags
-walk = (step child 5 ∷ []) ∷ (step child 1 ∷ step descendant 5 ∷ []) ∷ []
+-- ---- which rules are listed
 
 module _ {w : List ℕ} (e : selectorsOf w ≡ walk) {t : Table} where
+  -- the root
+  pub walk-root : {number stamp : ℕ} → Reached w t number stamp [] → stateAt t number .matched ≡ []
+  unfolding select
+  walk-root r = lists walk e r
+
   -- "type 1 into 0": "state 1 matched 0:"
   pub walk-1 : {number stamp : ℕ} → Reached w t number stamp (typed 1 ∷ []) → stateAt t number .matched ≡ []
   unfolding select stepMatches tagOk contained
@@ -59,10 +54,6 @@ module _ {w : List ℕ} (e : selectorsOf w ≡ walk) {t : Table} where
   walk-5 r = lists walk e r
 
 -- ---- which of these states are one
-
--- cursors and rules after a path
-abbrev pub after : List Tags → State
-after path = run stepMatches walk path
 
 pub after-none : after [] ≡ record { cursors = 0 ∷ 8 ∷ []; matched = [] }
 unfolding run
@@ -90,7 +81,10 @@ size s = length (s .cursors) + 3 * length (s .matched)
 
 module _ {w : List ℕ} (e : selectorsOf w ≡ walk) {t : Table} {a b stamp stamp′ : ℕ} {p q : List Tags} (r : Reached w t a stamp p) (r′ : Reached w t b stamp′ q) where
   pub one-state : after p ≡ after q → a ≡ b
-  one-state f = equal-lists-one-state r r′ (rw e f)
+  one-state f =
+      let (l, _, i) = reached-is w r in
+      let (m, _, j) = reached-is w r′ in
+      equal-lists-one-state (reached-covered w r) a b l m (i ∙ rw e f ∙ sym j)
 
   pub two-states : {x y : State} → after p ≡ x → after q ≡ y → size x ≢ size y → a ≢ b
   two-states f g n z =

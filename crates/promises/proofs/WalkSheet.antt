@@ -1,4 +1,4 @@
--- There is a made sheet with the selectors of 01's `walk` example. Assumes nothing.
+-- There is a made sheet that holds what 01's `walk` example pushes. Assumes nothing.
 use mathlib.Core.Path.{_≡_, ap, _∙_}
 use mathlib.Core.List.{List, [], _∷_, _++_, map, flatMap}
 use Prim.Native.Nat.{ℕ, zero, suc, _+_, _≤_}
@@ -14,19 +14,20 @@ use Rattle.selector.specs.Checks.{selectorOver, codesOver}
 use Rattle.style.specs.Checks.{entriesOver, kindsOver, propertiesOff}
 use Rattle.style.specs.Entries.{entriesOf}
 use Rattle.sheet.specs.Layout
-use Rattle.sheet.specs.Sheets.{Rule, Sheet, sheetOf}
+use Rattle.sheet.specs.Sheets.{Style, Rule, Sheet, sheetOf}
 use Rattle.sheet.specs.Laying.{idsHeld, emptied}
 use Rattle.laid.proofs.Frame.{Sizes, rules-after, ids-after, entries-after, style-entries-after, next-after}
 use Rattle.laid.proofs.Emptied.{zero-count, read-emptied, shape-emptied}
-use Rattle.given.specs.Given.{styleGiven, Group, given, selectorGiven, ruleGiven, rulesGiven}
+use Rattle.given.specs.Given.{styleGiven, Group, given, selectorGiven, entriesGiven, ruleGiven, rulesGiven}
 use Rattle.given.specs.Pushing.{stylePushVerdict, pushedStyle, rulesOver, ruleChecks, groupVerdict, pushedGroup}
 use Rattle.given.proofs.Accepted.{style-accepted}
 use Rattle.made.specs.Made.{Halves, Made, style, group}
+use Rattle.made.proofs.Distinct.{added}
 use Rattle.made.proofs.Accepting.{style-ready}
 use Rattle.made.proofs.Pushed.{style-pushed, group-pushed}
 use Rattle.made.proofs.Calls.{some-made}
 use Rattle.table.specs.Tables.{selectorsOf}
-use Rattle.promises.proofs.WalkExample.{walk}
+use Rattle.promises.specs.Walk.{walkSheet, walk}
 
 -- "direct 0 with entry 1, 0, 10"
 halves-style : Halves (1 ∷ [])
@@ -94,18 +95,26 @@ module _ (v : List ℕ) (room : Layout.SHEET-WORDS ≤ length v) where
   abbrev whole : List ℕ
   whole = pushedGroup styled 0 rules 2
 
-  whole-rules : sheetOf whole .rules ≡ rulesGiven 0 (Layout.nextIn styled) rules 2
-  whole-rules =
-      ap (λ (s : Sheet). s .rules) (group-pushed styled 0 rules 2 halves-rules group-fits .sheet)
-      ∙ ap (λ (s : Sheet). s .rules ++ rulesGiven 0 (Layout.nextIn styled) rules 2) (style-pushed (emptied v) 0 (1 ∷ []) (0 ∷ []) (10 ∷ []) 1 halves-style style-fits .sheet)
-      ∙ ap (λ (s : Sheet). (s .rules ++ []) ++ rulesGiven 0 (Layout.nextIn styled) rules 2) (read-emptied v room)
+  whole-sheet : sheetOf whole ≡ walkSheet
+  unfolding rulesGiven ruleGiven selectorGiven selectorOf entriesGiven entriesOf rowAt sumBelow insert sort
+  whole-sheet =
+      let one : Style = styleGiven 0 (Layout.nextIn (emptied v)) (1 ∷ []) (0 ∷ []) (10 ∷ []) 1 in
+      let two : List Rule = rulesGiven 0 (Layout.nextIn styled) rules 2 in
+      group-pushed styled 0 rules 2 halves-rules group-fits .sheet
+      ∙ ap (λ (s : Sheet). added s (Layout.nextIn styled + 1) [] two) (style-pushed (emptied v) 0 (1 ∷ []) (0 ∷ []) (10 ∷ []) 1 halves-style style-fits .sheet)
+      ∙ ap (λ (s : Sheet). added (added s (Layout.nextIn (emptied v) + 1) (one ∷ []) []) (Layout.nextIn styled + 1) [] two) (read-emptied v room)
+      ∙ rw (next-one, zero-count v room 6 (omega arith))
 
-  whole-selectors : selectorsOf whole ≡ walk
-  unfolding selectorsOf rulesGiven ruleGiven selectorGiven selectorOf rowAt sumBelow insert sort
-  whole-selectors = ap (map (λ (r : Rule). r .selector)) whole-rules
+pub walk-selectors : (w : List ℕ) → sheetOf w ≡ walkSheet → selectorsOf w ≡ walk
+unfolding selectorsOf
+walk-selectors w e = ap (λ (s : Sheet). map (λ (r : Rule). r .selector) (s .rules)) e
 
-pub walk-made : (w : List ℕ) × Made w × (selectorsOf w ≡ walk)
+pub walk-made : (w : List ℕ) × Made w × (sheetOf w ≡ walkSheet) × (selectorsOf w ≡ walk)
 walk-made =
     let v : List ℕ = replicate Layout.SHEET-WORDS 0 in
-    let room : Layout.SHEET-WORDS ≤ length v = omega (arith, length-replicate {A = ℕ} Layout.SHEET-WORDS 0) in
-    (whole v room, group (style some-made 0 (1 ∷ []) (0 ∷ []) (10 ∷ []) 1 halves-style (style-fits v room)) 0 rules 2 halves-rules (group-fits v room), whole-selectors v room)
+    let room : Layout.SHEET-WORDS ≤ length v = omega (arith, length-replicate {A = ℕ} Layout.SHEET-WORDS 0) in (
+      whole v room,
+      group (style some-made 0 (1 ∷ []) (0 ∷ []) (10 ∷ []) 1 halves-style (style-fits v room)) 0 rules 2 halves-rules (group-fits v room),
+      whole-sheet v room,
+      walk-selectors (whole v room) (whole-sheet v room),
+    )

@@ -2,7 +2,7 @@
 use mathlib.Core.Path.{_≡_, refl, sym, ap, _∙_, subst}
 use mathlib.Core.Bool.{true, false, and-false}
 use mathlib.Core.List.{List, [], _∷_, _++_}
-use mathlib.Core.Logic.{_⊎_, inl, inr, _≢_}
+use mathlib.Core.Logic.{_≢_}
 use Prim.Native.Nat.{ℕ, zero, suc, _+_, _*_, _≤_, _<_}
 use native.Mathlib.Omega.{arith}
 use lib.ListN.{length, getD}
@@ -16,9 +16,7 @@ use Rattle.lent.specs.Refusals.{firstOf}
 use Rattle.selector.specs.Tags.{Tags, stepMatches}
 use Rattle.selector.specs.Rows.{rowAt}
 use Rattle.typed.specs.declared.SelectorInputs.{SelectorInputs}
-use Rattle.typed.specs.declared.TypeChoice.{TypeChoice}
-use Rattle.typed.specs.declared.PartChoice.{PartChoice}
-use Rattle.typed.specs.Typed.{inputsTags, inputsRow, tagged}
+use Rattle.typed.specs.Typed.{inputsTags, inputsRow}
 use Rattle.sheet.specs.Shape.{sheetShape}
 use Rattle.table.specs.Tables.{Table, selectorsOf, statesIn, cursorsIn, matchedIn, cursorEnds, matchedEnds, stateAt}
 use Rattle.table.specs.Entering.{rootsOf, rootLacksRoom, built, nextState, roomFor, roomIn, cachedIn, lacksRoom, childOf}
@@ -29,28 +27,21 @@ use Rattle.matcher.specs.declared.Building.{Building}
 use Rattle.matcher.specs.declared.Entering.{Entering}
 use Rattle.matcher.proofs.Answers.{built-is, entered-is}
 use Rattle.matcher.proofs.Distinct.{building-distinct, entering-distinct}
-use Rattle.covered.specs.Covered.{Covered, Reached, Enters}
+use Rattle.covered.specs.Covered.{Covered, Reached, Enters, Numbered}
+use Rattle.covered.specs.Covered.Numbered.{reused, next}
 use Rattle.covered.specs.Rooms.{Proper}
 use Rattle.covered.proofs.Accepted.{row-tags, enter-accepts}
 use Rattle.covered.proofs.Held.{column-sum}
 use Rattle.covered.proofs.Reached.{covered-sound, enters-right, reached-covered, reached-is}
+use Rattle.promises.specs.Walk.{typed, subject, walk, after, Lent, state}
 use Rattle.promises.proofs.Calls.{build-reaches, build-one-state, enter-keeps, enter-reaches, enter-numbers}
-use Rattle.promises.proofs.WalkExample.{typed, walk, after, after-none, after-1, after-1-9, after-1-5, after-5, one-state, two-states}
-
--- a subject with a type alone, as the calls are given it
-abbrev pub subject : ℕ → SelectorInputs
-subject n = tagged (TypeChoice.Set (record { 0 = n })) PartChoice.Unset
+use Rattle.promises.proofs.WalkExample.{after-none, after-1, after-1-9, after-1-5, after-5, one-state, two-states}
 
 proper : (n : ℕ) → Proper (subject n)
 unfolding inputsTags ascendsFrom
 proper n = record { classes = omega arith; pseudos = omega arith; rise = refl }
 
--- ---- room: four states, their cursors and matched numbers
-
-pub record Lent (t : Table) : Type 0 where
-  pub rows : 12 ≤ length (t .states)
-  pub cursors : 4 ≤ length (t .cursors)
-  pub matched : 3 ≤ length (t .matched)
+-- ---- room
 
 module _ {w : List ℕ} {t t′ : Table} (lent : Lent t) where
   lent-built : {stamp ranking : ℕ} → Build w stamp ranking t Building.Built t′ → Lent t′
@@ -108,18 +99,15 @@ module _ {w : List ℕ} (e : selectorsOf w ≡ walk) {t : Table} {number stamp :
 
 -- ---- numbers: one that no state has is the next
 
-new-number : {k n m : ℕ} → ((k < n) × (m ≡ n)) ⊎ ((k ≡ n) × (m ≡ n + 1)) → ((i : ℕ) → i < n → k ≢ i) → (k ≡ n) × (m ≡ n + 1)
-new-number {k} (inl h) new = absurd (new k (h .0) refl)
-new-number (inr h) new = h
+new-number : {t t′ : Table} {k : ℕ} → Numbered t t′ k → ((i : ℕ) → i < statesIn (t .head) → k ≢ i) → (k ≡ statesIn (t .head)) × (statesIn (t′ .head) ≡ statesIn (t .head) + 1)
+new-number {k = k} (reused l e c) new = absurd (new k l refl)
+new-number (next none e c) new = (e, c)
 
-old-number : {k n m : ℕ} → ((k < n) × (m ≡ n)) ⊎ ((k ≡ n) × (m ≡ n + 1)) → k < n → m ≡ n
-old-number (inl h) l = h .1
-old-number (inr h) l = absurd (omega (arith, h .0))
+old-number : {t t′ : Table} {k : ℕ} → Numbered t t′ k → k < statesIn (t .head) → statesIn (t′ .head) ≡ statesIn (t .head)
+old-number (reused l e c) h = c
+old-number (next none e c) h = absurd (omega arith)
 
 -- ---- the answers
-
-abbrev pub state : ℕ → ℕ → Entering
-state number stamp = Entering.Entered (record { number = number; stamp = stamp })
 
 module _ {w : List ℕ} {t t′ : Table} {number stamp : ℕ} where
   -- an accepted entering answers a child
