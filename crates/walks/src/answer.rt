@@ -1,5 +1,6 @@
 // The lines of one item.
 use crate::calls;
+use crate::sets;
 use crate::store;
 use crate::tell;
 use items::MOST;
@@ -56,6 +57,7 @@ fn whole(
         6 => store::piece(body, head, states, cursors, matched, transitions, at),
         7 => tell::pieces(body, head, states, cursors, matched, transitions, out, at),
         8 => calls::root(body, out, at),
+        13..=17 => sets::alone(op, body, out, at),
         _ => say::one(out, at, b"op", op),
     }
 }
@@ -77,6 +79,19 @@ fn by_op(
         1 => store::sheet(body, sheet, at),
         2 => store::rooms(body, rooms, at),
         3..=5 => lent(
+            op,
+            body,
+            sheet,
+            head,
+            states,
+            cursors,
+            matched,
+            transitions,
+            rooms,
+            out,
+            at,
+        ),
+        9..=12 => lent(
             op,
             body,
             sheet,

@@ -1,4 +1,5 @@
 // The calls on a table.
+use crate::look;
 use crate::tell;
 use lent::words::word;
 use matcher::MatchState;
@@ -106,6 +107,40 @@ pub(crate) fn call(
             out,
             at,
         ),
+        9 => look::winner(
+            body,
+            sheet,
+            head,
+            states,
+            cursors,
+            matched,
+            transitions,
+            out,
+            at,
+        ),
+        10 => look::changed(
+            body,
+            sheet,
+            head,
+            states,
+            cursors,
+            matched,
+            transitions,
+            out,
+            at,
+        ),
+        11 => look::channels(
+            body,
+            sheet,
+            head,
+            states,
+            cursors,
+            matched,
+            transitions,
+            out,
+            at,
+        ),
+        12 => look::resources(body, sheet, out, at),
         _ => matching(
             state(body),
             sheet,

@@ -8,6 +8,9 @@ ghost use lib.ListN.{length};
 
 mod answer;
 mod calls;
+mod half;
+mod look;
+mod sets;
 mod store;
 mod tell;
 

@@ -269,7 +269,7 @@ pub fn build_batches(
     batches_with_ends(cases, seed, builds::fixed_ends(), builds::random_end)
 }
 
-/// Batches of walks: the same.
+/// Batches of walks, or of cascades: the same.
 pub fn walk_batches(
     cases: impl Iterator<Item = WalkCase>,
     seed: u64,

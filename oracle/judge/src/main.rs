@@ -18,6 +18,8 @@ mod tests;
 #[cfg(test)]
 mod tests_of_builds;
 #[cfg(test)]
+mod tests_of_cascades;
+#[cfg(test)]
 mod tests_of_walks;
 mod walk;
 mod walks;
@@ -47,32 +49,34 @@ judge: answers test cases from the published code
   judge answer builds < INPUT
       what `builds` has to print for a stream of items about sheets
   judge answer walks < INPUT
-      what `walks` has to print for a stream of items about tables
+      what `walks` has to print for a stream of items about tables; cascades
+      are such items too
   judge walk < FILE
       what `walk` has to print for a file of house records
-  judge make lists|paths|builds|walks --seed N --count N
+  judge make lists|paths|builds|walks|cascades --seed N --count N
       writes N cases to standard output, one after another
   judge make files --seed N --count N --into DIR
       writes N files of house records into DIR
-  judge compare lists|paths|builds|walks --run COMMAND --seed N --count N
+  judge compare lists|paths|builds|walks|cascades --run COMMAND --seed N
+              --count N
       gives N cases, in batches of at most 256 KiB (lists), 1 MiB (paths) or
-      4 MiB (builds, walks), to a shell command on its standard input and
+      4 MiB (the others), to a shell command on its standard input and
       compares its output with the judge's; some batches end inside a case or
       in a wrong one
   judge compare files --run COMMAND --seed N --count N
       gives N files of house records to a shell command, one a run, and
       compares its output with the judge's byte for byte
-  judge store lists|paths|builds|walks --seed N --count N --cases FILE
-              --answers FILE
-      writes N cases and the judge's answers to them; of builds and walks only
-      small ones
+  judge store lists|paths|builds|walks|cascades --seed N --count N
+              --cases FILE --answers FILE
+      writes N cases and the judge's answers to them; of builds, walks and
+      cascades only small ones
   judge --help
       this text
 
 A seed always gives the same cases. With a count of at least twice as many as
 there are fixed cases (edges, and all small ones) every one of those is among
-them; 20,000 is enough for any, 5,000 for walks. What is made or stored are
-whole cases only.
+them; 20,000 is enough for any, 5,000 for walks and cascades. What is made or
+stored are whole cases only.
 
 Status: 0 all equal or done; 1 a difference, told on standard output, made as
 small as it goes; 2 wrong usage, or something could not be read, written or run.
@@ -149,6 +153,11 @@ fn walks(seed: u64, count: usize) -> impl Iterator<Item = WalkCase> {
     stream(walk_edges::fixed(), walks::random_case, seed, count)
 }
 
+fn cascades(seed: u64, count: usize) -> impl Iterator<Item = WalkCase> {
+    use generate::{cascade_edges, cascades, stream};
+    stream(cascade_edges::fixed(), cascades::random_case, seed, count)
+}
+
 /// Cases that are stored: those for which `fits` holds.
 fn small<T: Clone>(
     mut fixed: Vec<T>,
@@ -180,11 +189,20 @@ fn small_builds(seed: u64, count: usize) -> impl Iterator<Item = BuildCase> {
     small(fixed, builds::random_case, fits, seed, count)
 }
 
+fn is_small_walk(case: &WalkCase) -> bool {
+    case.bytes() <= MOST_STORED && case.words_told() <= MOST_TOLD
+}
+
 fn small_walks(seed: u64, count: usize) -> impl Iterator<Item = WalkCase> {
     use generate::{walk_edges, walks};
-    let fits = |case: &WalkCase| case.bytes() <= MOST_STORED && case.words_told() <= MOST_TOLD;
     let fixed = walk_edges::fixed();
-    small(fixed, walks::random_case, fits, seed, count)
+    small(fixed, walks::random_case, is_small_walk, seed, count)
+}
+
+fn small_cascades(seed: u64, count: usize) -> impl Iterator<Item = WalkCase> {
+    use generate::{cascade_edges, cascades};
+    let fixed = cascade_edges::fixed();
+    small(fixed, cascades::random_case, is_small_walk, seed, count)
 }
 
 /// Bytes of whole cases, and what is to be printed for them, case by case.
@@ -208,6 +226,7 @@ impl Made {
             What::Paths => Ok(Self::of(paths(seed, count))),
             What::Builds => Ok(Self::of(builds(seed, count))),
             What::Walks => Ok(Self::of(walks(seed, count))),
+            What::Cascades => Ok(Self::of(cascades(seed, count))),
             What::Files => Err("files are not cases of a batch".to_string()),
         }
     }
@@ -240,6 +259,7 @@ fn store(what: What, words: &[&str]) -> Result<(), String> {
     let made = match what {
         What::Builds => Made::of(small_builds(seed, count)),
         What::Walks => Made::of(small_walks(seed, count)),
+        What::Cascades => Made::of(small_cascades(seed, count)),
         _ => Made::new(what, seed, count)?,
     };
     write_file(Path::new(options.text("--cases")?), &made.bytes)?;
@@ -267,6 +287,10 @@ fn compare(what: What, words: &[&str]) -> Result<ExitCode, String> {
         }
         What::Walks => {
             let batches = walk_batches(walks(seed, count), seed);
+            compare_cases(name, command, seed, count, batches)?
+        }
+        What::Cascades => {
+            let batches = walk_batches(cascades(seed, count), seed);
             compare_cases(name, command, seed, count, batches)?
         }
         What::Files => compare_files(command, seed, count, files(seed, count))?,

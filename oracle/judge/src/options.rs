@@ -9,16 +9,19 @@ pub enum What {
     Paths,
     Builds,
     Walks,
+    Cascades,
     Files,
 }
 
 impl What {
     pub fn named(name: &str) -> Result<Self, String> {
         use What::*;
-        [Lists, Paths, Builds, Walks, Files]
-            .into_iter()
-            .find(|what| what.name() == name)
-            .ok_or_else(|| format!("`{name}` is none of lists, paths, builds, walks, files"))
+        let all = [Lists, Paths, Builds, Walks, Cascades, Files];
+        let found = all.into_iter().find(|what| what.name() == name);
+        found.ok_or_else(|| {
+            let names = all.map(Self::name).join(", ");
+            format!("`{name}` is none of {names}")
+        })
     }
 
     pub fn name(self) -> &'static str {
@@ -27,6 +30,7 @@ impl What {
             Self::Paths => "paths",
             Self::Builds => "builds",
             Self::Walks => "walks",
+            Self::Cascades => "cascades",
             Self::Files => "files",
         }
     }

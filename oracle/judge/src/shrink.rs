@@ -3,7 +3,7 @@
 //! Everything here tries something smaller and keeps it if the difference is
 //! still there. `still` answers that, and runs the command.
 
-use crate::builds::model::{Model, Rule};
+use crate::builds::model::Model;
 use crate::builds::{BuildCase, GROUP, Item, MOST_ROOM, STYLE};
 use crate::generate::walks::sheet;
 use crate::paths::{PathCase, ROW_HEAD, STEP_IDS, STEP_ROW, SUBJECT_IDS};
@@ -244,7 +244,7 @@ pub fn shrink_build(case: BuildCase, still: Still<'_, BuildCase>) -> Result<Buil
     }
 }
 
-/// The smallest case of walks found: its items first, then the rules of its
+/// The smallest case of walks found: its items first, then the sources of its
 /// sheet, then the words of each item, the last items before the sheet.
 pub fn shrink_walk(case: WalkCase, still: Still<'_, WalkCase>) -> Result<WalkCase, String> {
     let mut items = case.items;
@@ -266,8 +266,8 @@ pub fn shrink_walk(case: WalkCase, still: Still<'_, WalkCase>) -> Result<WalkCas
     }
 }
 
-/// Leaves out rules, and then steps, of the first sheet that items store, if
-/// its words are in shape.
+/// Leaves out rules and direct styles, and then steps and entries, of the
+/// first sheet that items store, if its words are in shape.
 fn shrink_sheet(items: Vec<Item>, still: Still<'_, Vec<Item>>) -> Result<Vec<Item>, String> {
     let stores = |item: &Item| item.op == SHEET;
     let begin = items.iter().position(stores).unwrap_or(items.len());
@@ -282,34 +282,73 @@ fn shrink_sheet(items: Vec<Item>, still: Still<'_, Vec<Item>>) -> Result<Vec<Ite
     let Ok(model) = machine.look().cloned() else {
         return Ok(items);
     };
-    let with = |rules: &Vec<Rule>| {
-        let fewer = Model {
-            rules: rules.clone(),
-            ..model.clone()
-        };
-        [&items[..begin], &sheet(&fewer), &items[end..]].concat()
-    };
-    if model.rules.is_empty() || !still(&with(&model.rules))? {
+    let with = |model: &Model| [&items[..begin], &sheet(model), &items[end..]].concat();
+    if model == Model::default() || !still(&with(&model))? {
         return Ok(items);
     }
-    let mut rules = drop_some(model.rules.clone(), &mut |rules| still(&with(rules)))?;
-    for number in 0..rules.len() {
-        for step in (0..rules[number].body.steps.len()).rev() {
-            let mut tried = rules.clone();
-            let body = &mut tried[number].body;
+    let mut small = model.clone();
+    small = shrink_part(small, |model| &mut model.rules, &with, still)?;
+    small = shrink_part(small, |model| &mut model.directs, &with, still)?;
+    small = shrink_steps(small, &with, still)?;
+    for number in 0..small.rules.len() {
+        small = shrink_part(
+            small,
+            |model| &mut model.rules[number].body.entries,
+            &with,
+            still,
+        )?;
+    }
+    for number in 0..small.directs.len() {
+        small = shrink_part(
+            small,
+            |model| &mut model.directs[number].entries,
+            &with,
+            still,
+        )?;
+    }
+    if small == model {
+        return Ok(items);
+    }
+    Ok(with(&small))
+}
+
+/// Leaves out elements of one list of a sheet.
+fn shrink_part<T: Clone>(
+    mut model: Model,
+    part: impl Fn(&mut Model) -> &mut Vec<T>,
+    with: &dyn Fn(&Model) -> Vec<Item>,
+    still: Still<'_, Vec<Item>>,
+) -> Result<Model, String> {
+    let list = part(&mut model).clone();
+    let base = model.clone();
+    *part(&mut model) = drop_some(list, &mut |list| {
+        let mut tried = base.clone();
+        *part(&mut tried) = list.clone();
+        still(&with(&tried))
+    })?;
+    Ok(model)
+}
+
+/// Leaves out single steps, each with a combinator beside it.
+fn shrink_steps(
+    mut model: Model,
+    with: &dyn Fn(&Model) -> Vec<Item>,
+    still: Still<'_, Vec<Item>>,
+) -> Result<Model, String> {
+    for number in 0..model.rules.len() {
+        for step in (0..model.rules[number].body.steps.len()).rev() {
+            let mut tried = model.clone();
+            let body = &mut tried.rules[number].body;
             body.steps.remove(step);
             if !body.codes.is_empty() {
                 body.codes.remove(step.saturating_sub(1));
             }
             if still(&with(&tried))? {
-                rules = tried;
+                model = tried;
             }
         }
     }
-    if rules == model.rules {
-        return Ok(items);
-    }
-    Ok(with(&rules))
+    Ok(model)
 }
 
 /// Leaves out words of an item's payload, then lowers them.

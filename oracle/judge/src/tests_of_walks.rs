@@ -486,7 +486,7 @@ fn readings_of_the_shape_agree() {
 #[test]
 fn ends_of_a_stream() {
     assert_eq!(answer_stream(&[]), "");
-    assert_eq!(answer_stream(&bytes_of(&[0, 0, 9, 1, 5])), "op 0\nop 9\n");
+    assert_eq!(answer_stream(&bytes_of(&[0, 0, 18, 1, 5])), "op 0\nop 18\n");
     assert_eq!(answer_stream(&bytes_of(&[8, 1])), "cut short\n");
     assert_eq!(answer_stream(&bytes_of(&[8, 32_769])), "too long\n");
     assert_eq!(answer_stream(&bytes_of(&[8, 32_768])), "cut short\n");

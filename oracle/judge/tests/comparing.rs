@@ -27,6 +27,7 @@ fn no_difference_from_itself() {
         ("paths", "JUDGE paths", "2000"),
         ("builds", "JUDGE answer builds", "300"),
         ("walks", "JUDGE answer walks", "300"),
+        ("cascades", "JUDGE answer walks", "300"),
     ] {
         let told = format!("compared {count} cases of {what}: no difference\n");
         assert_eq!(compare(what, run, count), (Some(0), told));
@@ -137,6 +138,22 @@ fn planted_difference_in_walks_is_made_small() {
     assert_eq!(status, Some(1));
     let items = "case of 2 items:\nop 2, 1 words: 67016\nop 3, 2 words: 0 2\n";
     assert!(told.contains(items), "{told}");
+}
+
+#[test]
+fn planted_difference_in_cascades_is_made_small() {
+    // A direct style with one entry, a table, and a winner.
+    let run = "JUDGE answer walks | sed 's/^winner 0 1 0 0/winner 0 1 0 9/'";
+    let (status, told) = compare("cascades", run, "2000");
+    assert_eq!(status, Some(1));
+    assert!(told.contains("cascades, seed 3, case "), "{told}");
+    let items = "case of 5 items:\nop 1, 7 words: 0 0 0 0 0 1 1\nop 1, 4 words: 60680 0 0 1\n\
+                 op 2, 2 words: 67016 3\nop 3, 1 words: 7\nop 9, 2 words: 0 7\n";
+    assert!(told.contains(items), "{told}");
+    let run = "JUDGE answer walks | sed 's/^len 0 3/len 0 4/'";
+    let (status, told) = compare("cascades", run, "2000");
+    assert_eq!(status, Some(1));
+    assert!(told.contains("case of 1 items:\nop 13, "), "{told}");
 }
 
 #[test]

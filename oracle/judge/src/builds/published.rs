@@ -19,7 +19,7 @@ pub fn property(id: u16) -> Property<u32> {
     Property::from_id(PropertyId::new(id))
 }
 
-fn origin_of(origin: u32) -> StyleOrigin {
+pub fn origin_of(origin: u32) -> StyleOrigin {
     StyleOrigin(u8::try_from(origin).expect("an accepted origin is small"))
 }
 
@@ -62,7 +62,12 @@ pub fn selector_of(body: &Body) -> Selector {
 /// What the entry of a style is for a reader: kind, and the number if it is
 /// kept.
 pub fn kind_of(style: &Style, id: u16) -> Option<(u32, Option<u32>)> {
-    let kind = match style.value_kind(property(id))? {
+    style.value_kind(property(id)).map(read_kind)
+}
+
+/// The same of an entry that was found.
+pub fn read_kind(kind: StyleValueKind<'_, u32>) -> (u32, Option<u32>) {
+    match kind {
         StyleValueKind::Value(&number) => (0, Some(number)),
         StyleValueKind::Resource(ResourceKey(number)) => (1, Some(number)),
         StyleValueKind::Expr(expression) => match expression.as_erased().deps().resources[..] {
@@ -71,8 +76,7 @@ pub fn kind_of(style: &Style, id: u16) -> Option<(u32, Option<u32>)> {
             _ => panic!("no expression here reads several resources"),
         },
         _ => panic!("a kind that document 01 does not know"),
-    };
-    Some(kind)
+    }
 }
 
 /// The entries of a style in the order of their ids, but for one property.

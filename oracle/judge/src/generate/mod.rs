@@ -1,12 +1,16 @@
 //! Cases from a seed.
 //!
-//! Each of lists, paths, builds, walks and files has fixed cases (all small ones, and the
-//! edges of every size) and random ones (valid and damaged). A stream of
-//! cases begins with all fixed ones if they are at most half of what was
-//! asked for; otherwise every second case, by chance, is a fixed one.
+//! Each of lists, paths, builds, walks, cascades and files has fixed cases (all
+//! small ones, and the edges of every size) and random ones (valid and
+//! damaged). A stream of cases begins with all fixed ones if they are at most
+//! half of what was asked for; otherwise every second case, by chance, is a
+//! fixed one.
 
 pub mod build_edges;
 pub mod builds;
+pub mod cascade_edges;
+pub mod cascade_lists;
+pub mod cascades;
 pub mod damage;
 pub mod files;
 pub mod lists;

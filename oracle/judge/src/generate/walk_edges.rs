@@ -17,7 +17,7 @@ use crate::walks::image::{
     STATE_ROW, STATE_ROWS, TRANSITION_COUNT, TRANSITION_ROW, TRANSITION_ROWS,
 };
 use crate::walks::table::{Row, STATES};
-use crate::walks::{BUILD, ENTER, Machine, PART, ROOMS, ROOT, SHEET, TELL, WRITE, WalkCase};
+use crate::walks::{COMPARE, ENTER, Machine, SHEET, WalkCase};
 
 /// The stamp of most tables here.
 pub const S: u32 = 7;
@@ -1220,11 +1220,10 @@ fn overwritten() -> Vec<WalkCase> {
 /// Payloads that are short, long, or point past the memory.
 fn payloads() -> Vec<WalkCase> {
     let mut cases = Vec::new();
-    let ops = [SHEET, ROOMS, BUILD, ENTER, PART, WRITE, TELL, ROOT];
     // Nothing at all, one word, more words than are read.
     for words in [&[][..], &[1], &[1; 50]] {
         let mut items = small_table(AMPLE);
-        for op in ops.into_iter().chain([0, 9, 10, 0x8000_0000, u32::MAX]) {
+        for op in (SHEET..=COMPARE).chain([0, 18, 19, 0x8000_0000, u32::MAX]) {
             items.push(item(op, words));
         }
         items.extend([small_told(), rooms(AMPLE), part(0, 1), part(0, S)]);

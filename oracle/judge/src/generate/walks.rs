@@ -3,6 +3,7 @@
 
 use super::EXTREMES;
 use super::builds::{ends, item};
+use super::cascades::{changed, winner};
 use super::damage::damage_words;
 use super::paths::{Tags, rubbish_in_row};
 use super::random::Random;
@@ -132,7 +133,7 @@ pub fn sheet(model: &Model) -> Vec<Item> {
 }
 
 /// What steps ask for, and what subjects have, in one case.
-struct Pool {
+pub(super) struct Pool {
     types: Vec<u32>,
     parts: Vec<u32>,
     classes: Vec<u32>,
@@ -140,7 +141,7 @@ struct Pool {
 }
 
 impl Pool {
-    fn new(random: &mut Random) -> Self {
+    pub(super) fn new(random: &mut Random) -> Self {
         let mut ids = |most: usize| -> Vec<u32> {
             let count = random.between(1, most);
             let odd = random.once_in(6);
@@ -167,7 +168,7 @@ impl Pool {
         ids
     }
 
-    fn step(&self, random: &mut Random) -> Tags {
+    pub(super) fn step(&self, random: &mut Random) -> Tags {
         Tags {
             type_tag: random.once_in(2).then(|| random.pick(&self.types)),
             part_tag: random.once_in(8).then(|| random.pick(&self.parts)),
@@ -192,7 +193,7 @@ impl Pool {
     }
 }
 
-fn random_codes(random: &mut Random, steps: usize) -> Vec<u32> {
+pub(super) fn random_codes(random: &mut Random, steps: usize) -> Vec<u32> {
     let codes = 1..steps;
     codes.map(|_| u32::from(random.below(5) < 3)).collect()
 }
@@ -274,7 +275,7 @@ fn large_sheet(random: &mut Random, pool: &Pool) -> Model {
 }
 
 /// A subject that some of a sheet's steps match.
-fn fitting(random: &mut Random, pool: &Pool, model: &Model) -> Tags {
+pub(super) fn fitting(random: &mut Random, pool: &Pool, model: &Model) -> Tags {
     let mut subject = pool.subject(random);
     for _ in 0..random.between(1, 3) {
         if model.rules.is_empty() {
@@ -306,7 +307,7 @@ fn fits(step: &Step, mut subject: Tags) -> Tags {
     subject
 }
 
-fn random_rooms(random: &mut Random, model: &Model) -> [u32; 5] {
+pub(super) fn random_rooms(random: &mut Random, model: &Model) -> [u32; 5] {
     let mut rooms = AMPLE;
     let cursors = root_of(&model.rules).cursors.len();
     let scarce = random.pick(&[0, 0, 3, 6]);
@@ -331,29 +332,43 @@ fn random_rooms(random: &mut Random, model: &Model) -> [u32; 5] {
 
 /// A case in the making. It is answered as it is made, so that what comes
 /// next can be about the states and transitions that there are.
-struct Maker<'a> {
-    random: &'a mut Random,
-    machine: Machine,
-    items: Vec<Item>,
+pub(super) struct Maker<'a> {
+    pub(super) random: &'a mut Random,
+    pub(super) machine: Machine,
+    pub(super) items: Vec<Item>,
     pool: Pool,
-    model: Model,
+    pub(super) model: Model,
     subjects: Vec<Tags>,
-    stamp: u32,
+    pub(super) stamp: u32,
     last: u32,
 }
 
-impl Maker<'_> {
-    fn push(&mut self, item: Item) -> String {
+impl<'a> Maker<'a> {
+    pub(super) fn new(random: &'a mut Random, pool: Pool, model: Model) -> Self {
+        let subjects = (0..random.between(2, 9)).map(|_| fitting(random, &pool, &model));
+        Self {
+            subjects: subjects.collect(),
+            random,
+            machine: Machine::default(),
+            items: Vec::new(),
+            pool,
+            model,
+            stamp: 7,
+            last: 0,
+        }
+    }
+
+    pub(super) fn push(&mut self, item: Item) -> String {
         let lines = self.machine.item(item.op, &item.payload);
         self.items.push(item);
         lines
     }
 
-    fn head(&self, place: usize) -> usize {
+    pub(super) fn head(&self, place: usize) -> usize {
         self.machine.piece(HEAD)[place] as usize
     }
 
-    fn states(&self) -> usize {
+    pub(super) fn states(&self) -> usize {
         self.head(STATE_COUNT).clamp(1, 515)
     }
 
@@ -395,7 +410,7 @@ impl Maker<'_> {
     }
 
     /// Mostly a state that there is, with the table's stamp.
-    fn state(&mut self) -> (u32, u32) {
+    pub(super) fn state(&mut self) -> (u32, u32) {
         let states = self.states() as u32;
         let number = self.number();
         match self.random.below(40) {
@@ -443,7 +458,7 @@ impl Maker<'_> {
         row
     }
 
-    fn enter(&mut self) {
+    pub(super) fn enter(&mut self) {
         let (number, stamp) = self.state();
         let row = self.row();
         self.push_enter(number, stamp, &row);
@@ -462,7 +477,7 @@ impl Maker<'_> {
     }
 
     /// Subjects that a rule's steps match, one under another, and the list.
-    fn follow(&mut self) {
+    pub(super) fn follow(&mut self) {
         if self.model.rules.is_empty() {
             return self.ask();
         }
@@ -488,10 +503,19 @@ impl Maker<'_> {
     fn ask(&mut self) {
         let (number, stamp) = self.state();
         self.push(part(number, stamp));
+        if self.random.once_in(3) {
+            let property = self.random.below(4) as u32;
+            self.push(winner(number, stamp, property));
+        }
+        if self.random.once_in(3) {
+            let (new, new_stamp) = self.state();
+            let room = self.random.below(5) as u32;
+            self.push(changed([number, stamp, new, new_stamp], room));
+        }
     }
 
     /// What is used, and a little more; transitions mostly not all.
-    fn tell(&mut self) {
+    pub(super) fn tell(&mut self) {
         let more = self.random.below(5);
         let transitions = match self.random.below(4) {
             0 => self.transitions(),
@@ -547,11 +571,11 @@ impl Maker<'_> {
         rows[TRANSITION_ROW * number..][..TRANSITION_ROW].to_vec()
     }
 
-    fn write(&mut self, piece: usize, address: usize, words: &[u32]) {
+    pub(super) fn write(&mut self, piece: usize, address: usize, words: &[u32]) {
         self.push(write(piece, address, words));
     }
 
-    fn write_head(&mut self, place: usize, value: usize) {
+    pub(super) fn write_head(&mut self, place: usize, value: usize) {
         self.write(HEAD, place, &[value as u32]);
     }
 
@@ -658,7 +682,7 @@ impl Maker<'_> {
     }
 
     /// A cursor or a matched rule, mostly one that there is.
-    fn list_word(&mut self) {
+    pub(super) fn list_word(&mut self) {
         let rules = self.model.rules.len();
         let (piece, used, value) = match self.random.below(2) {
             0 => {
@@ -706,7 +730,7 @@ impl Maker<'_> {
     }
 
     /// Any word that is in use, or one near it.
-    fn any_word(&mut self) {
+    pub(super) fn any_word(&mut self) {
         let piece = self.random.below(5);
         let used = match piece {
             HEAD => 8,
@@ -783,17 +807,7 @@ pub fn random_case(random: &mut Random) -> WalkCase {
         0 => large_sheet(random, &pool),
         _ => random_sheet(random, &pool),
     };
-    let subjects = (0..random.between(2, 9)).map(|_| fitting(random, &pool, &model));
-    let mut maker = Maker {
-        subjects: subjects.collect(),
-        random,
-        machine: Machine::default(),
-        items: Vec::new(),
-        pool,
-        model,
-        stamp: 7,
-        last: 0,
-    };
+    let mut maker = Maker::new(random, pool, model);
     maker.start();
     let calls = match maker.random.below(8) {
         0 | 1 => maker.random.between(30, 60),

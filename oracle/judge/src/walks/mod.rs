@@ -1,21 +1,27 @@
-//! Cases of tables: build, enter, matched lists.
+//! Cases of tables: build, enter, matched lists; winners and changes.
 //!
-//! The form is in the README, under "Walks". A call reads the words of the
-//! sheet and of the table (image.rs) as plain lists, answers on those
-//! (table.rs) and writes words. Of a table made by build and accepted calls
-//! the published code (published.rs) gives the numbers of states and the
-//! matched lists, and has to agree with the plain lists at every call.
+//! The form is in the README, under "Walks" and "Cascades". A call reads the
+//! words of the sheet and of the table (image.rs) as plain lists, answers on
+//! those (table.rs, winners.rs) and writes words. Of a table made by build and
+//! accepted calls the published code (published.rs) gives the numbers of
+//! states, the matched lists and, under ranking 0, winners and changes; it has
+//! to agree with the plain lists at every call. Change lists without a sheet
+//! are in changes.rs.
 
+pub mod changes;
 pub mod image;
 pub mod published;
 pub mod table;
+pub mod winners;
 
 use crate::builds::image::read as read_sheet;
 use crate::builds::model::{Model, Refusal};
 use crate::builds::{Item, MOST_ROOM, Payload, numbered, read_item};
+use changes::{channel_lines, list_lines};
 use image::{CURSORS, HEAD, Lent, MATCHED, Pieces, SIZES, STAMP, STATE_ROW, STATE_ROWS};
-use published::{Walked, test_ascending};
+use published::{Cascade, Walked, test_ascending};
 use table::{Row, Subject, Table, root};
+use winners::{Holder, View, Won};
 
 pub const SHEET: u32 = 1;
 pub const ROOMS: u32 = 2;
@@ -25,6 +31,15 @@ pub const PART: u32 = 5;
 pub const WRITE: u32 = 6;
 pub const TELL: u32 = 7;
 pub const ROOT: u32 = 8;
+pub const WINNER: u32 = 9;
+pub const CHANGED: u32 = 10;
+pub const CHANNELS: u32 = 11;
+pub const RESOURCES: u32 = 12;
+pub const SET: u32 = 13;
+pub const UNION: u32 = 14;
+pub const AFFECTED: u32 = 15;
+pub const HAS: u32 = 16;
+pub const COMPARE: u32 = 17;
 
 /// One case: items one after another. What an earlier case of the same stream
 /// has left in the memory may show.
@@ -99,6 +114,12 @@ impl Machine {
         self.walked.is_some()
     }
 
+    /// Whether the published cascade answers too.
+    #[cfg(test)]
+    pub fn cascade_in_play(&self) -> bool {
+        self.cascade(self.pieces[HEAD][image::RANKING]).is_some()
+    }
+
     pub fn lent(&self) -> Lent<'_> {
         [0, 1, 2, 3, 4].map(|piece| &self.pieces[piece][..self.rooms[piece]])
     }
@@ -113,9 +134,7 @@ impl Machine {
     /// The table, or 11 for the sheet or the table.
     pub fn table(&mut self) -> Result<Table, Refusal> {
         self.look()?;
-        let model = self.model.as_ref().and_then(Option::as_ref);
-        let rules = &model.expect("a sheet in shape").rules;
-        image::read(rules, self.lent()).ok_or(11)
+        image::read(&self.model().rules, self.lent()).ok_or(11)
     }
 
     fn lend(&mut self, [sheet, states, cursors, matched, transitions]: [u32; 5]) {
@@ -195,6 +214,68 @@ impl Machine {
         Ok(([from, to], list))
     }
 
+    /// The sheet, which has been looked at and found in shape.
+    fn model(&self) -> &Model {
+        let model = self.model.as_ref().and_then(Option::as_ref);
+        model.expect("a sheet in shape")
+    }
+
+    /// The published cascade, if build and calls made the table, pushes the
+    /// sheet, and the ranking is the published one.
+    fn cascade(&self, ranking: u32) -> Option<Cascade<'_>> {
+        let walked = self.walked.as_ref()?;
+        walked.cascade().filter(|_| ranking == 0)
+    }
+
+    fn view<'a>(&'a self, table: &'a Table, state: usize) -> View<'a> {
+        View {
+            model: self.model(),
+            ranking: table.ranking,
+            matched: &table.states[state].lists.matched,
+        }
+    }
+
+    /// Who wins a property: 11, 4.
+    fn won(&mut self, number: u32, stamp: u32, property: u16) -> Result<Option<Won>, Refusal> {
+        let table = self.table()?;
+        let state = table.state(number, stamp)?;
+        let won = self.view(&table, state).won(property);
+        let Some(cascade) = self.cascade(table.ranking) else {
+            return Ok(won);
+        };
+        let published = cascade.won(self.model(), state, property);
+        assert_eq!(published, won, "the published winner");
+        Ok(published)
+    }
+
+    /// The changed properties, and their channels: 11, 4 (old), 4 (new).
+    fn changed(
+        &mut self,
+        [old, old_stamp, new, new_stamp]: [u32; 4],
+        masks: &[u32],
+    ) -> Result<(Vec<u16>, u32), Refusal> {
+        let table = self.table()?;
+        let old = table.state(old, old_stamp)?;
+        let new = table.state(new, new_stamp)?;
+        let changed = self.view(&table, old).changed(&self.view(&table, new));
+        let channels = winners::channels(&changed, masks);
+        let Some(cascade) = self.cascade(table.ranking) else {
+            return Ok((changed, channels));
+        };
+        let published = (cascade.changed(old, new), cascade.channels(old, new, masks));
+        assert_eq!(published, (changed, channels), "the published changes");
+        Ok(published)
+    }
+
+    /// Resource-dependent properties: 11 (sheet).
+    fn resources(&mut self) -> Result<Vec<u16>, Refusal> {
+        let model = self.look()?;
+        let published = published::resource_dependent(model);
+        let plain = winners::resource_dependent(model);
+        assert_eq!(published, plain, "the published resources");
+        Ok(published)
+    }
+
     /// The lines of one item.
     pub fn item(&mut self, op: u32, payload: &[u32]) -> String {
         let mut payload = Payload(payload);
@@ -250,6 +331,28 @@ impl Machine {
                 self.pieces.iter().zip(tags).map(line).collect()
             }
             ROOT => format!("root 0 {}\n", payload.word()),
+            WINNER => {
+                let [number, stamp, property] = payload.words();
+                winner_lines(self.won(number, stamp, property as u16))
+            }
+            CHANGED => {
+                let changed = self.changed(payload.words(), &[]);
+                let changed = changed.map(|(changed, _)| changed);
+                list_lines("changed", changed, payload.word())
+            }
+            CHANNELS => {
+                let states = payload.words();
+                match self.changed(states, payload.0) {
+                    Ok((_, channels)) => channel_lines("channels 0", channels),
+                    Err(refusal) => format!("channels {refusal}\n"),
+                }
+            }
+            RESOURCES => list_lines("resources", self.resources(), payload.word()),
+            SET => changes::set_lines(payload),
+            UNION => changes::union_lines(payload),
+            AFFECTED => changes::affected_lines(payload),
+            HAS => changes::has_line(payload),
+            COMPARE => changes::compare_lines(payload),
             _ => format!("op {op}\n"),
         }
     }
@@ -272,6 +375,30 @@ impl Machine {
         }
         lines
     }
+}
+
+fn winner_lines(won: Result<Option<Won>, Refusal>) -> String {
+    let won = match won {
+        Ok(won) => won,
+        Err(refusal) => {
+            let line = |tag| format!("{tag} {refusal}\n");
+            return ["winner", "kind", "plain", "resource"].map(line).concat();
+        }
+    };
+    let Some(won) = won else {
+        return "winner 0 0\nkind 0\nplain 0\nresource 0\n".to_string();
+    };
+    let (code, number) = match won.holder {
+        Holder::Direct(number) => (1, number),
+        Holder::Rule(number) => (2, number),
+    };
+    [
+        numbered("winner 0", [code, number as u32, won.source]),
+        numbered("kind 0", won.kind),
+        numbered("plain 0", won.plain.into_iter().flatten()),
+        numbered("resource 0", won.resource),
+    ]
+    .concat()
 }
 
 /// What is to be printed for a stream.

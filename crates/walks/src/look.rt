@@ -1,0 +1,243 @@
+// Winners, changes and channels of a table's states.
+use crate::half;
+use cascade::Channels;
+use cascade::Winning;
+use cascade::change::changed_channels;
+use cascade::change::changed_properties;
+use cascade::look::get_entry_ref;
+use cascade::look::resource_key;
+use cascade::look::value_kind;
+use cascade::look::winning_source_for_id;
+use cascade::resources::resource_dependent_properties;
+use channels::ChannelSet;
+use channels::Lowest;
+use items::say;
+use lent::lists::rest;
+use lent::words::word;
+use lines::text;
+use matcher::MatchState;
+use style::ResourceKey;
+use style::StyleValueKind;
+use style::StyleValueRef;
+
+fn winning(out: &mut [u8], at: usize, answer: Winning) -> usize {
+    let tag = b"winner";
+    match answer {
+        Winning::Nobody => say::two(out, at, tag, 0, 0),
+        Winning::Direct(number, source) => say::line(out, at, tag, &[0, 1, number, source]),
+        Winning::Rule(number, source) => say::line(out, at, tag, &[0, 2, number, source]),
+        Winning::Refused(refusal) => say::refused(out, at, tag, refusal),
+    }
+}
+
+fn kind(out: &mut [u8], at: usize, answer: StyleValueKind) -> usize {
+    let tag = b"kind";
+    match answer {
+        StyleValueKind::Value(n) => say::three(out, at, tag, 0, 0, n),
+        StyleValueKind::Resource(n) => say::three(out, at, tag, 0, 1, n),
+        StyleValueKind::Expr(n) => say::three(out, at, tag, 0, 2, n),
+        StyleValueKind::ResourceExpr(n) => say::three(out, at, tag, 0, 3, n),
+        StyleValueKind::Absent => say::one(out, at, tag, 0),
+        StyleValueKind::Refused(refusal) => say::refused(out, at, tag, refusal),
+    }
+}
+
+fn plain(out: &mut [u8], at: usize, answer: StyleValueRef) -> usize {
+    let tag = b"plain";
+    match answer {
+        StyleValueRef::Value(n) => say::three(out, at, tag, 0, 0, n),
+        StyleValueRef::Resource(n) => say::three(out, at, tag, 0, 1, n),
+        StyleValueRef::Nothing => say::one(out, at, tag, 0),
+        StyleValueRef::Refused(refusal) => say::refused(out, at, tag, refusal),
+    }
+}
+
+fn resource(out: &mut [u8], at: usize, answer: ResourceKey) -> usize {
+    let tag = b"resource";
+    match answer {
+        ResourceKey::Key(n) => say::two(out, at, tag, 0, n),
+        ResourceKey::Nothing => say::one(out, at, tag, 0),
+        ResourceKey::Refused(refusal) => say::refused(out, at, tag, refusal),
+    }
+}
+
+// The winner of a property, and its entry: in full, plainly, and as a resource.
+pub(crate) fn winner(
+    body: &[u32],
+    sheet: &[u32],
+    head: &[u32; 8],
+    states: &[u32],
+    cursors: &[u32],
+    matched: &[u32],
+    transitions: &[u32],
+    out: &mut [u8],
+    at: usize,
+) -> usize {
+    let state = MatchState {
+        number: word(body, 0),
+        stamp: word(body, 1),
+    };
+    let property = half::low(word(body, 2));
+    let won = winning_source_for_id(
+        sheet,
+        head,
+        states,
+        cursors,
+        matched,
+        transitions,
+        state,
+        property,
+    );
+    let a = winning(out, at, won);
+    let entry = value_kind(
+        sheet,
+        head,
+        states,
+        cursors,
+        matched,
+        transitions,
+        state,
+        property,
+    );
+    let b = kind(out, a, entry);
+    let looked = get_entry_ref(
+        sheet,
+        head,
+        states,
+        cursors,
+        matched,
+        transitions,
+        state,
+        property,
+    );
+    let c = plain(out, b, looked);
+    let key = resource_key(
+        sheet,
+        head,
+        states,
+        cursors,
+        matched,
+        transitions,
+        state,
+        property,
+    );
+    resource(out, c, key)
+}
+
+fn old(body: &[u32]) -> MatchState {
+    MatchState {
+        number: word(body, 0),
+        stamp: word(body, 1),
+    }
+}
+
+fn new(body: &[u32]) -> MatchState {
+    MatchState {
+        number: word(body, 2),
+        stamp: word(body, 3),
+    }
+}
+
+fn changed_into(
+    body: &[u32],
+    sheet: &[u32],
+    head: &[u32; 8],
+    states: &[u32],
+    cursors: &[u32],
+    matched: &[u32],
+    transitions: &[u32],
+    buffer: &mut [u16],
+    out: &mut [u8],
+    at: usize,
+) -> usize {
+    let answer = changed_properties(
+        sheet,
+        head,
+        states,
+        cursors,
+        matched,
+        transitions,
+        old(body),
+        new(body),
+        buffer,
+    );
+    half::listed(out, at, b"changed", answer, buffer)
+}
+
+pub(crate) fn changed(
+    body: &[u32],
+    sheet: &[u32],
+    head: &[u32; 8],
+    states: &[u32],
+    cursors: &[u32],
+    matched: &[u32],
+    transitions: &[u32],
+    out: &mut [u8],
+    at: usize,
+) -> usize {
+    let mut buffer = [half::FILLED; half::SIZE];
+    let n = half::room(body, 4);
+    changed_into(
+        body,
+        sheet,
+        head,
+        states,
+        cursors,
+        matched,
+        transitions,
+        &mut buffer[..n],
+        out,
+        at,
+    )
+}
+
+// How many channels a set names, and the lowest.
+pub(crate) fn named(out: &mut [u8], at: usize, set: ChannelSet) -> usize {
+    let used = say::one(out, at, b"named", set.len());
+    match set.lowest() {
+        Lowest::Channel(k) => say::one(out, used, b"lowest", k),
+        Lowest::Nothing => text(out, used, b"lowest none\n"),
+    }
+}
+
+pub(crate) fn channels(
+    body: &[u32],
+    sheet: &[u32],
+    head: &[u32; 8],
+    states: &[u32],
+    cursors: &[u32],
+    matched: &[u32],
+    transitions: &[u32],
+    out: &mut [u8],
+    at: usize,
+) -> usize {
+    let answer = changed_channels(
+        sheet,
+        head,
+        states,
+        cursors,
+        matched,
+        transitions,
+        rest(body, 4),
+        old(body),
+        new(body),
+    );
+    match answer {
+        Channels::Set(set) => {
+            let used = say::two(out, at, b"channels", 0, set.0);
+            named(out, used, set)
+        }
+        Channels::Refused(refusal) => say::refused(out, at, b"channels", refusal),
+    }
+}
+
+fn resources_into(sheet: &[u32], buffer: &mut [u16], out: &mut [u8], at: usize) -> usize {
+    let answer = resource_dependent_properties(sheet, buffer);
+    half::listed(out, at, b"resources", answer, buffer)
+}
+
+pub(crate) fn resources(body: &[u32], sheet: &[u32], out: &mut [u8], at: usize) -> usize {
+    let mut buffer = [half::FILLED; half::SIZE];
+    let n = half::room(body, 0);
+    resources_into(sheet, &mut buffer[..n], out, at)
+}

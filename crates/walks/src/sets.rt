@@ -1,0 +1,143 @@
+// Change sets, channel sets and keys by themselves.
+use crate::half;
+use crate::look::named;
+use changeset::Changing;
+use changeset::Emptiness;
+use changeset::from_property_ids;
+use changeset::is_empty;
+use changeset::len;
+use changeset::union;
+use channels::ChannelSet;
+use channels::affected_channels;
+use items::MOST;
+use items::say;
+use keys::CascadeEntryKey;
+use lent::lists::part;
+use lent::lists::rest;
+use lent::words::wide;
+use lent::words::word;
+use lines::text;
+use selector::Specificity;
+
+fn length(out: &mut [u8], at: usize, answer: Changing) -> usize {
+    match answer {
+        Changing::Listed(n) => half::count(out, at, b"len", n),
+        Changing::Refused(refusal) => say::refused(out, at, b"len", refusal),
+    }
+}
+
+fn emptiness(out: &mut [u8], at: usize, answer: Emptiness) -> usize {
+    match answer {
+        Emptiness::Yes => say::two(out, at, b"empty", 0, 1),
+        Emptiness::No => say::two(out, at, b"empty", 0, 0),
+        Emptiness::Refused(refusal) => say::refused(out, at, b"empty", refusal),
+    }
+}
+
+// The set of the first `count` ids, its length and whether it is empty.
+fn set_of(ids: &[u16], count: usize, buffer: &mut [u16], out: &mut [u8], at: usize) -> usize {
+    let answer = from_property_ids(ids, count, buffer);
+    let a = half::listed(out, at, b"set", answer, buffer);
+    let b = length(out, a, len(ids, count));
+    emptiness(out, b, is_empty(ids, count))
+}
+
+fn from_ids(body: &[u32], out: &mut [u8], at: usize) -> usize {
+    let mut ids = [0u16; MOST];
+    let k = half::narrow(rest(body, 2), &mut ids);
+    let mut buffer = [half::FILLED; half::SIZE];
+    let n = half::room(body, 1);
+    set_of(&ids[..k], wide(word(body, 0)), &mut buffer[..n], out, at)
+}
+
+fn united(
+    a: &[u16],
+    n: usize,
+    b: &[u16],
+    m: usize,
+    buffer: &mut [u16],
+    out: &mut [u8],
+    at: usize,
+) -> usize {
+    let answer = union(a, n, b, m, buffer);
+    half::listed(out, at, b"union", answer, buffer)
+}
+
+fn unite(body: &[u32], out: &mut [u8], at: usize) -> usize {
+    let k = wide(word(body, 3));
+    let mut a = [0u16; MOST];
+    let mut b = [0u16; MOST];
+    let i = half::narrow(part(body, 4, 4 + k), &mut a);
+    let j = half::narrow(rest(body, 4 + k), &mut b);
+    let mut buffer = [half::FILLED; half::SIZE];
+    let n = half::room(body, 2);
+    united(
+        &a[..i],
+        wide(word(body, 0)),
+        &b[..j],
+        wide(word(body, 1)),
+        &mut buffer[..n],
+        out,
+        at,
+    )
+}
+
+fn affected(body: &[u32], out: &mut [u8], at: usize) -> usize {
+    let k = wide(word(body, 0));
+    let mut ids = [0u16; MOST];
+    let i = half::narrow(part(body, 1, 1 + k), &mut ids);
+    let set = affected_channels(&ids[..i], rest(body, 1 + k));
+    let used = say::one(out, at, b"affected", set.0);
+    named(out, used, set)
+}
+
+fn has(body: &[u32], out: &mut [u8], at: usize) -> usize {
+    let set = ChannelSet(word(body, 1));
+    if set.contains(word(body, 0)) {
+        return say::one(out, at, b"has", 1);
+    }
+    say::one(out, at, b"has", 0)
+}
+
+// The key in the seven words from i on.
+fn key(body: &[u32], i: usize) -> CascadeEntryKey {
+    let words = rest(body, i);
+    CascadeEntryKey {
+        origin: word(words, 0),
+        specificity: Specificity(
+            word(words, 1),
+            word(words, 2),
+            word(words, 3),
+            word(words, 4),
+        ),
+        source_index: word(words, 5),
+        order: word(words, 6),
+    }
+}
+
+fn compared(out: &mut [u8], at: usize, order: i32) -> usize {
+    if order < 0 {
+        return text(out, at, b"compare -1\n");
+    }
+    if order == 0 {
+        return text(out, at, b"compare 0\n");
+    }
+    text(out, at, b"compare 1\n")
+}
+
+fn compare(body: &[u32], out: &mut [u8], at: usize) -> usize {
+    let a = key(body, 0);
+    let b = key(body, 7);
+    let used = compared(out, at, a.compare(b));
+    compared(out, used, b.compare(a))
+}
+
+pub(crate) fn alone(op: u32, body: &[u32], out: &mut [u8], at: usize) -> usize {
+    match op {
+        13 => from_ids(body, out, at),
+        14 => unite(body, out, at),
+        15 => affected(body, out, at),
+        16 => has(body, out, at),
+        _ => compare(body, out, at),
+    }
+}
