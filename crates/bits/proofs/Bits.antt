@@ -131,13 +131,6 @@ pub zero-bits : bitsIn 0 ≡ []
 unfolding bitsIn select bit
 zero-bits = refl
 
-pub bits-none : (n : ℕ) → n < 2 ^ 32 → bitsIn n ≡ [] → n ≡ 0
-bits-none zero h e = refl
-bits-none (suc n) h e =
-    let t = trailing-first (suc n) (omega arith) h in
-    let k : 0 ≡ suc (length (t .0)) = ap length (sym e ∙ t .1) in
-    absurd (omega arith)
-
 -- the bits listed are those that are set
 pub bits-in : (n k : ℕ) → n < 2 ^ 32 → (k ∈ bitsIn n) ↔ (bit n k ≡ true)
 unfolding bitsIn

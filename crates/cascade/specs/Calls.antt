@@ -12,7 +12,7 @@ use Rattle.winners.specs.Winners.{Place, winnerOf, entryOf}
 use Rattle.changeset.specs.Sets.{tooShort}
 use Rattle.changes.specs.Changes.{changedOf, resourceDependent}
 
--- ---- in the state that has number k; "The table's ranking picks the weight"
+-- ---- in the state that has number k; the ranking that the table was built with picks the weight
 
 abbrev pub rulesAt : Table → ℕ → List ℕ
 rulesAt t k = matchedAt (t .states) (t .matched) k

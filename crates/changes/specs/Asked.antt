@@ -1,4 +1,4 @@
--- The properties to be asked and those of them that differ, in the order in which they are written. Assumes nothing.
+-- The properties to be asked and those of them that differ, in the order in which they are written. For contracts within and cores alone. Assumes nothing.
 use mathlib.Core.Path.{_≡_}
 use mathlib.Core.Bool.{Bool, cond, not}
 use mathlib.Core.List.{List, [], _∷_, _++_}

@@ -1,4 +1,4 @@
--- Which properties have to be asked: those of rules that are listed on one side only. Assumes nothing.
+-- Which properties have to be asked: those of rules that are listed on one side only. For contracts within and cores alone. Assumes nothing.
 use mathlib.Core.Bool.{cond}
 use mathlib.Core.List.{List, [], flatMap}
 use Prim.Native.Nat.{ℕ}

@@ -38,7 +38,7 @@ abbrev pub rulesOn : List ℕ → List Tags → List ℕ
 rulesOn w path = select (λ k. fitsTail stepMatches (rule (selectorsOf w) k) path) (rulesIn w)
 
 module _ (w : List ℕ) where
-  -- ---- "The table's ranking picks the weight": it is the one that the table was last built with,
+  -- ---- the table's ranking picks the weight: it is the one that the table was last built with,
 
   pub built-ranking : (t : Table) (stamp ranking : ℕ) → Builds w ranking t → rankingIn (built w stamp ranking t .head) ≡ ranking
   built-ranking t stamp ranking (e, v) =

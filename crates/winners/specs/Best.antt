@@ -1,4 +1,4 @@
--- The best source so far, by value. Assumes nothing.
+-- The best source so far, by value. For contracts within and cores alone. Assumes nothing.
 use mathlib.Core.Path.{_≡_}
 use mathlib.Core.Bool.{Bool, true}
 use mathlib.Core.Option.{Option, none, some, Option·map}

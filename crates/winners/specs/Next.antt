@@ -1,4 +1,4 @@
--- One more source after those seen. Assumes nothing.
+-- One more source after those seen. For contracts within and cores alone. Assumes nothing.
 use mathlib.Core.List.{List, [], _∷_, _++_}
 use Prim.Native.Nat.{ℕ}
 use Rattle.theory.specs.Cascade.{winner}
