@@ -78,20 +78,7 @@ fn by_op(
     match op {
         1 => store::sheet(body, sheet, at),
         2 => store::rooms(body, rooms, at),
-        3..=5 => lent(
-            op,
-            body,
-            sheet,
-            head,
-            states,
-            cursors,
-            matched,
-            transitions,
-            rooms,
-            out,
-            at,
-        ),
-        9..=12 => lent(
+        3..=5 | 9..=12 => lent(
             op,
             body,
             sheet,
