@@ -22,10 +22,10 @@ use Rattle.matcher.proofs.Answers.{accepted, refused, entered-is}
 use Rattle.bench.specs.Numbers.{REFUSED, pushNumber, buildNumber, enterNumber, settledNumber, Outcome, Builds, Enters, EntersHeld, Copied}
 
 module _ {M : Type 0} (v n : ℕ) (before acc after : M) (m : after ≡ cond (eqb v 0) acc before) (r : ℕ) where
-  outcome-yes : v ≡ 0 → r ≡ n → Outcome v n before acc r after
+  pub outcome-yes : v ≡ 0 → r ≡ n → Outcome v n before acc r after
   outcome-yes z e = record { answer = rw z e; memory = m }
 
-  outcome-no : (v ≡ 0 → ⊥) → r ≡ REFUSED → Outcome v n before acc r after
+  pub outcome-no : (v ≡ 0 → ⊥) → r ≡ REFUSED → Outcome v n before acc r after
   outcome-no h e = record { answer = rw (ne-eqb v 0 h) e; memory = m }
 
 pub push-is : (v : ℕ) (before pushed : List ℕ) (p : Pushing) (after : List ℕ) (r : ℕ) → Push v before pushed p after → r ≡ pushNumber p → Outcome v 0 before pushed r after

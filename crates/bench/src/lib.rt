@@ -14,12 +14,13 @@ ghost use Rattle.typed.specs.Typed.{inputsRow, inputsFrom};
 ghost use Rattle.sheet.specs.Shape.{sheetShape};
 ghost use Rattle.sheet.specs.Laying.{emptied};
 ghost use Rattle.given.specs.Given.{given};
-ghost use Rattle.given.specs.Pushing.{emptyVerdict, groupVerdict, pushedGroup};
+ghost use Rattle.given.specs.Pushing.{emptyVerdict, groupVerdict, pushedGroup, stylePushVerdict, pushedStyle};
 ghost use Rattle.table.specs.Tables.{table};
 ghost use Rattle.table.specs.Calls.{broken};
 ghost use Rattle.bench.specs.Numbers.{pushNumber, buildNumber, enterNumber, Outcome, Builds, Enters, rulesOf, Copied};
 
 pub mod held;
+pub mod winning;
 
 // What stands for every refusal: no state has this number.
 pub const REFUSED: u32 = 65536;
@@ -56,6 +57,21 @@ pub extern "C" fn bench_new(sheet: &mut [u32]) -> u32
     ensures { λ r. ⌜ Outcome (emptyVerdict (now (sheet .entry))) 0 (now (sheet .entry)) (emptied (now (sheet .entry))) r (now (sheet .exit)) ⌝ }
 {
     let pushing = builder::new(sheet);
+    told(pushing)
+}
+
+#[no_mangle]
+pub extern "C" fn bench_push_style(
+    sheet: &mut [u32],
+    origin: u32,
+    properties: &[u16],
+    kinds: &[u32],
+    numbers: &[u32],
+    count: usize,
+) -> u32
+    ensures { λ r. ⌜ Outcome (stylePushVerdict (now (sheet .entry)) origin (now (properties .entry)) (now (kinds .entry)) (now (numbers .entry)) count) 0 (now (sheet .entry)) (pushedStyle (now (sheet .entry)) origin (now (properties .entry)) (now (kinds .entry)) (now (numbers .entry)) count) r (now (sheet .exit)) ⌝ }
+{
+    let pushing = builder::push_style(sheet, origin, properties, kinds, numbers, count);
     told(pushing)
 }
 
