@@ -12,9 +12,41 @@ pub struct Subject {
     pub pseudos: Vec<u32>,
 }
 
+/// A rule, and the properties of its style.
 pub struct Rule {
     pub steps: Vec<Subject>,
     pub codes: Vec<u32>,
+    pub properties: Vec<u16>,
+}
+
+/// Direct styles, each by its properties, and one group of rules.
+pub struct Sources {
+    pub styles: Vec<Vec<u16>>,
+    pub rules: Vec<Rule>,
+}
+
+/// Properties below this are in many sources; from here on each rule has one
+/// of its own, and so has each direct style.
+pub const OF_RULE: u16 = 1000;
+pub const OF_STYLE: u16 = 2000;
+/// No source has these.
+pub const OF_NOBODY: u16 = 60_000;
+
+/// Direct styles, and sources of so many entries: one that no other has, the
+/// others out of the first `common` properties.
+fn dressed(mut rules: Vec<Rule>, styles: usize, entries: usize, common: u32) -> Sources {
+    let mut r = Random(0x9E37_79B9_7F4A_7C15);
+    let mut properties = |own: u16| {
+        let ids = r.ids(entries - 1, common);
+        let mut ids: Vec<u16> = ids.into_iter().map(|id| id as u16).collect();
+        ids.push(own);
+        ids
+    };
+    let styles = (0..styles).map(|k| properties(OF_STYLE + k as u16)).collect();
+    for (rule, k) in rules.iter_mut().zip(0..) {
+        rule.properties = properties(OF_RULE + k);
+    }
+    Sources { styles, rules }
 }
 
 /// An entering, and the number of the state that it gives.
@@ -38,13 +70,15 @@ impl Call {
 
 pub struct Case {
     pub name: String,
-    pub rules: Vec<Rule>,
+    pub sources: Sources,
     pub grow: Vec<Call>,
     /// Enterings that are cached; not cached, with the state held; not
     /// cached, with a new state.
     pub cached: Vec<Call>,
     pub held: Vec<Call>,
     pub new: Vec<Call>,
+    /// Of a walk, the state of each element's previous sibling.
+    pub before: Vec<Option<u32>>,
 }
 
 pub struct Random(pub u64);
@@ -70,22 +104,22 @@ impl Random {
     }
 }
 
-pub fn small(_: &mut Random) -> Vec<Rule> {
+pub fn small(_: &mut Random) -> Sources {
     let tag = |t, c: &[u32]| Subject {
         type_tag: Some(t),
         classes: c.to_vec(),
         pseudos: vec![],
     };
-    vec![
-        Rule {
-            steps: vec![tag(1, &[]), tag(2, &[1])],
-            codes: vec![1],
-        },
-        Rule {
-            steps: vec![tag(3, &[]), tag(2, &[])],
-            codes: vec![0],
-        },
-    ]
+    let rule = |steps, code| Rule {
+        steps,
+        codes: vec![code],
+        properties: vec![],
+    };
+    let rules = vec![
+        rule(vec![tag(1, &[]), tag(2, &[1])], 1),
+        rule(vec![tag(3, &[]), tag(2, &[])], 0),
+    ];
+    dressed(rules, 1, 4, 8)
 }
 
 pub fn small_subject(r: &mut Random) -> Subject {
@@ -97,18 +131,18 @@ pub fn small_subject(r: &mut Random) -> Subject {
     }
 }
 
-pub fn middle(r: &mut Random) -> Vec<Rule> {
+pub fn middle(r: &mut Random) -> Sources {
     let step = |r: &mut Random| Subject {
         type_tag: (r.below(3) == 0).then(|| r.below(6)),
         classes: r.ids(1, 24),
         pseudos: vec![],
     };
-    (0..40)
-        .map(|k| Rule {
-            steps: vec![step(r), step(r)],
-            codes: vec![k % 2],
-        })
-        .collect()
+    let rule = |k: u32| Rule {
+        steps: vec![step(r), step(r)],
+        codes: vec![k % 2],
+        properties: vec![],
+    };
+    dressed((0..40).map(rule).collect(), 2, 6, 20)
 }
 
 pub fn middle_subject(r: &mut Random) -> Subject {
@@ -121,7 +155,7 @@ pub fn middle_subject(r: &mut Random) -> Subject {
 }
 
 /// 1 to 8 steps of one or two classes, every third with a pseudo-class.
-pub fn large(r: &mut Random) -> Vec<Rule> {
+pub fn large(r: &mut Random) -> Sources {
     let step = |r: &mut Random| {
         let (n, p) = (1 + r.below(2) as usize, (r.below(3) == 0) as usize);
         Subject {
@@ -133,9 +167,14 @@ pub fn large(r: &mut Random) -> Vec<Rule> {
     let mut rule = |k: u32| {
         let steps: Vec<_> = (0..=k % 8).map(|_| step(r)).collect();
         let codes = steps[1..].iter().map(|_| r.below(2)).collect();
-        Rule { steps, codes }
+        Rule {
+            steps,
+            codes,
+            properties: vec![],
+        }
     };
-    (0..256).map(&mut rule).collect()
+    // 3,960 of the 4,096 entries that a sheet may have
+    dressed((0..256).map(&mut rule).collect(), 8, 15, 56)
 }
 
 pub fn large_subject(r: &mut Random) -> Subject {
@@ -178,16 +217,17 @@ impl Drawing {
 
 /// A table of so many states and at least so many transitions, as far as they
 /// are to be had.
-pub fn drawn(name: &str, rules: fn(&mut Random) -> Vec<Rule>, draw: Draw, states: u32, transitions: usize) -> Case {
+pub fn drawn(name: &str, sources: fn(&mut Random) -> Sources, draw: Draw, states: u32, transitions: usize) -> Case {
     let mut random = Random(88_172_645_463_325_252);
-    let rules = rules(&mut random);
+    let sources = sources(&mut random);
     let mut case = Case {
         name: name.into(),
-        rules,
+        sources,
         grow: vec![],
         cached: vec![],
         held: vec![],
         new: vec![],
+        before: vec![],
     };
     let mut drawing = Drawing {
         random,
@@ -195,7 +235,7 @@ pub fn drawn(name: &str, rules: fn(&mut Random) -> Vec<Rule>, draw: Draw, states
         made: vec![],
         seen: HashSet::new(),
     };
-    let mut walked = Walked::new(&case.rules);
+    let mut walked = Walked::new(&case.sources);
     let mut full = 1;
     for _ in 0..20_000 {
         if full >= states && case.grow.len() >= transitions {
@@ -213,7 +253,7 @@ pub fn drawn(name: &str, rules: fn(&mut Random) -> Vec<Rule>, draw: Draw, states
         drawing.made.push((parent, subject));
     }
     // the table's own numbers: the walk above may have passed states by
-    let mut walked = Walked::new(&case.rules);
+    let mut walked = Walked::new(&case.sources);
     for call in &case.grow {
         assert_eq!(walked.enter(call.parent, &call.lent), call.child);
     }
@@ -242,29 +282,34 @@ pub fn drawn(name: &str, rules: fn(&mut Random) -> Vec<Rule>, draw: Draw, states
 
 /// A walk through a tree of elements at most 6 deep, each one of a few
 /// subjects, from an empty table on: cached or not, as they come.
-pub fn walk(name: &str, rules: fn(&mut Random) -> Vec<Rule>, draw: Draw, subjects: u32, elements: usize) -> Case {
+pub fn walk(name: &str, sources: fn(&mut Random) -> Sources, draw: Draw, subjects: u32, elements: usize) -> Case {
     let mut r = Random(88_172_645_463_325_252);
-    let rules = rules(&mut r);
+    let sources = sources(&mut r);
     let subjects: Vec<Subject> = (0..subjects).map(|_| draw(&mut r)).collect();
-    let mut walked = Walked::new(&rules);
-    let (mut path, mut calls) = (vec![0], vec![]);
+    let mut walked = Walked::new(&sources);
+    // each element on the path, and the last one under it
+    let (mut path, mut calls) = (vec![(0, None)], vec![]);
+    let mut before = vec![];
     while calls.len() < elements {
         path.truncate(1 + r.below(path.len() as u32) as usize);
-        let parent = path[path.len() - 1];
+        let last = path.len() - 1;
+        let parent = path[last].0;
         let subject = &subjects[r.below(subjects.len() as u32) as usize];
         let child = walked.enter(parent, &Lent::new(subject));
         calls.push(Call::new(parent, subject, child));
+        before.push(path[last].1.replace(child));
         if path.len() < 6 {
-            path.push(child);
+            path.push((child, None));
         }
     }
     Case {
         name: name.into(),
-        rules,
+        sources,
         grow: vec![],
         cached: vec![],
         held: calls,
         new: vec![],
+        before,
     }
 }
 
@@ -277,13 +322,13 @@ fn class(ids: &[u32]) -> Subject {
 }
 
 /// Rules `.first .99` that a descendant combinator holds.
-fn waiting(first: impl Iterator<Item = u32>) -> Vec<Rule> {
-    first
-        .map(|c| Rule {
-            steps: vec![class(&[c]), class(&[99])],
-            codes: vec![1],
-        })
-        .collect()
+fn waiting(first: impl Iterator<Item = u32>) -> Sources {
+    let rule = |c| Rule {
+        steps: vec![class(&[c]), class(&[99])],
+        codes: vec![1],
+        properties: vec![],
+    };
+    dressed(first.map(rule).collect(), 0, 1, 1)
 }
 
 /// Under the root with so many cursors, a subject that nothing matches.
@@ -291,11 +336,12 @@ pub fn cursors(count: u32) -> Case {
     let call = |k: u32, child| Call::new(0, &class(&[1000 + k]), child);
     Case {
         name: format!("{count} root cursors"),
-        rules: waiting((0..count).map(|_| 1)),
+        sources: waiting((0..count).map(|_| 1)),
         grow: vec![call(0, 1)],
         cached: vec![],
         held: (1..9).map(|k| call(k, 1)).collect(),
         new: vec![],
+        before: vec![],
     }
 }
 
@@ -304,18 +350,19 @@ pub fn chain(count: u32) -> Case {
     let call = |k: u32| Call::new(0, &class(&[1000 + k]), 1);
     Case {
         name: format!("{count} transitions of the parent"),
-        rules: waiting([1].into_iter()),
+        sources: waiting([1].into_iter()),
         grow: (0..count).map(call).collect(),
         cached: vec![call(count - 1)],
         held: vec![],
         new: vec![],
+        before: vec![],
     }
 }
 
 /// So many states, each with a list of its own after `prefix` cursors that
 /// all have; the last state is found again under itself.
 pub fn search(count: u32, prefix: u32) -> Case {
-    let rules = waiting((0..prefix).map(|_| 20).chain(0..10));
+    let sources = waiting((0..prefix).map(|_| 20).chain(0..10));
     let subject = |k: u32| {
         let mut ids: Vec<u32> = (0..10).filter(|b| k >> b & 1 == 1).collect();
         ids.push(20);
@@ -327,10 +374,11 @@ pub fn search(count: u32, prefix: u32) -> Case {
         .collect();
     Case {
         name: format!("{count} states, {prefix} common"),
-        rules,
+        sources,
         grow,
         cached: vec![],
         held,
         new: vec![],
+        before: vec![],
     }
 }

@@ -44,11 +44,20 @@ pub fn turn(rep: usize, sides: usize) -> impl Iterator<Item = usize> {
     })
 }
 
+/// Rounds that make a block of about half a millisecond.
+pub fn rounds_for(once: f64) -> usize {
+    (5e5 / once.max(1.0)).clamp(1.0, 2000.0) as usize
+}
+
 pub struct Times(Vec<Vec<f64>>);
 
-fn quantile(mut of: Vec<f64>, p: f64) -> f64 {
+pub fn quantile(mut of: Vec<f64>, p: f64) -> f64 {
     of.sort_by(f64::total_cmp);
     of[((of.len() - 1) as f64 * p).round() as usize]
+}
+
+pub fn median(of: Vec<f64>) -> f64 {
+    quantile(of, 0.5)
 }
 
 impl Times {
@@ -64,31 +73,12 @@ impl Times {
     }
 
     pub fn median(&self, side: usize) -> f64 {
-        quantile(self.0[side].clone(), 0.5)
+        median(self.0[side].clone())
     }
 
-    pub fn spread(&self, side: usize) -> String {
-        let at = |p| quantile(self.0[side].clone(), p);
-        format!("{:.0}..{:.0}", at(0.05), at(0.95))
-    }
-
-    /// The ratio of two sides, repetition by repetition.
-    fn ratio(&self, side: usize, to: usize) -> String {
-        let ratios: Vec<f64> = self.0[side].iter().zip(&self.0[to]).map(|(a, b)| a / b).collect();
-        let at = |p| quantile(ratios.clone(), p);
-        format!("{:.2} [{:.2}..{:.2}]", at(0.5), at(0.05), at(0.95))
-    }
-
-    /// Public call, core, Rust, Rust again.
-    pub fn print(&self, what: &str, name: &str) {
-        println!(
-            "{what:14} {name:34} public {:9.0}  core {:9.0}  Rust {:9.0}  public/Rust {}  core/Rust {}  control {}",
-            self.median(0),
-            self.median(1),
-            self.median(2),
-            self.ratio(0, 2),
-            self.ratio(1, 2),
-            self.ratio(3, 2),
-        );
+    /// The median ratio of two sides, repetition by repetition.
+    pub fn ratio(&self, side: usize, to: usize) -> f64 {
+        let pairs = self.0[side].iter().zip(&self.0[to]);
+        median(pairs.map(|(a, b)| a / b).collect())
     }
 }

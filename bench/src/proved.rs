@@ -1,11 +1,15 @@
 //! The proved library, crate `bench`: a slice crosses as a pointer and a
 //! number of elements, a reference to an array as a pointer.
 
-use crate::cases::{Rule, Subject};
+use crate::cases::{Sources, Subject};
 
 #[link(name = "bench", kind = "static")]
 unsafe extern "C" {
     fn bench_new(s: *mut u32, sl: usize) -> u32;
+    fn bench_push_style(
+        s: *mut u32, sl: usize, origin: u32, p: *const u16, pl: usize, k: *const u32, kl: usize, n: *const u32,
+        nl: usize, count: usize,
+    ) -> u32;
     fn bench_push_rules(
         s: *mut u32, sl: usize, origin: u32, r: *const u32, rl: usize, count: usize, t: *const u32, tl: usize,
         c: *const u32, cl: usize, p: *const u16, pl: usize, k: *const u32, kl: usize, n: *const u32, nl: usize,
@@ -28,6 +32,24 @@ unsafe extern "C" {
     fn bench_held_matching(
         st: *const u32, stl: usize, m: *const u32, ml: usize, number: u32, out: *mut u32, outl: usize,
     ) -> usize;
+    // a property is a u16 there; as a u32 it comes with its upper bits cleared on both kinds of machine
+    fn bench_winner(
+        s: *const u32, sl: usize, h: *const u32, st: *const u32, stl: usize, c: *const u32, cl: usize,
+        m: *const u32, ml: usize, t: *const u32, tl: usize, number: u32, stamp: u32, property: u32,
+    ) -> usize;
+    fn bench_held_winner(
+        s: *const u32, sl: usize, h: *const u32, hl: usize, st: *const u32, stl: usize, c: *const u32, cl: usize,
+        m: *const u32, ml: usize, t: *const u32, tl: usize, number: u32, property: u32,
+    ) -> usize;
+    fn bench_changed(
+        s: *const u32, sl: usize, h: *const u32, st: *const u32, stl: usize, c: *const u32, cl: usize,
+        m: *const u32, ml: usize, t: *const u32, tl: usize, old: u32, new: u32, stamp: u32, out: *mut u16,
+        outl: usize,
+    ) -> usize;
+    fn bench_held_changed(
+        s: *const u32, sl: usize, h: *const u32, hl: usize, st: *const u32, stl: usize, c: *const u32, cl: usize,
+        m: *const u32, ml: usize, t: *const u32, tl: usize, old: u32, new: u32, into: *mut u16,
+    ) -> usize;
     fn bench_is_sheet(s: *const u32, sl: usize) -> bool;
     fn bench_is_table(
         s: *const u32, sl: usize, h: *const u32, st: *const u32, stl: usize, c: *const u32, cl: usize,
@@ -37,30 +59,47 @@ unsafe extern "C" {
 
 const STAMP: u32 = 7;
 
+/// What stands for no winner, and for the first direct style.
+pub const NOBODY: usize = 65_537;
+pub const DIRECT: usize = 131_072;
+
+/// How many changes there may be.
+pub const CHANGES: usize = 4096;
+
 pub struct Sheet(Vec<u32>);
 
 impl Sheet {
-    /// One group with one entry in each rule.
-    pub fn new(rules: &[Rule]) -> Self {
+    /// The sources in the order and with the origins that the published side
+    /// has; every entry is a value, its number the property's.
+    pub fn new(sources: &Sources) -> Self {
         let mut words = vec![0; 67_020];
-        let n = rules.len();
-        let (mut counts, mut steps, mut codes) = (vec![], vec![], vec![]);
+        let mut told = unsafe { bench_new(words.as_mut_ptr(), words.len()) };
+        for (properties, k) in sources.styles.iter().zip(0..) {
+            let (kinds, numbers, n) = entries(properties);
+            told += unsafe {
+                bench_push_style(
+                    words.as_mut_ptr(), words.len(), k % 2, properties.as_ptr(), n, kinds.as_ptr(), n,
+                    numbers.as_ptr(), n, n,
+                )
+            };
+        }
+        let rules = &sources.rules;
+        let (mut counts, mut steps, mut codes, mut properties) = (vec![], vec![], vec![], vec![]);
         for rule in rules {
-            counts.extend([rule.steps.len() as u32, rule.codes.len() as u32, 1]);
+            counts.extend([rule.steps.len(), rule.codes.len(), rule.properties.len()].map(|n| n as u32));
             for step in &rule.steps {
                 steps.extend(step.row(8));
             }
             codes.extend(&rule.codes);
+            properties.extend(&rule.properties);
         }
-        let properties: Vec<u16> = (0..n as u16).collect();
-        let numbers: Vec<u32> = (0..n as u32).collect();
-        let kinds = vec![0u32; n];
-        let told = unsafe {
-            bench_new(words.as_mut_ptr(), words.len())
-                + bench_push_rules(
-                    words.as_mut_ptr(), words.len(), 0, counts.as_ptr(), counts.len(), n, steps.as_ptr(), steps.len(),
-                    codes.as_ptr(), codes.len(), properties.as_ptr(), n, kinds.as_ptr(), n, numbers.as_ptr(), n,
-                )
+        let (kinds, numbers, n) = entries(&properties);
+        told += unsafe {
+            bench_push_rules(
+                words.as_mut_ptr(), words.len(), 1, counts.as_ptr(), counts.len(), rules.len(), steps.as_ptr(),
+                steps.len(), codes.as_ptr(), codes.len(), properties.as_ptr(), n, kinds.as_ptr(), n,
+                numbers.as_ptr(), n,
+            )
         };
         assert_eq!(told, 0, "the sheet is refused");
         Self(words)
@@ -70,11 +109,16 @@ impl Sheet {
         unsafe { bench_is_sheet(self.0.as_ptr(), self.0.len()) }
     }
 
-    /// Words in use: counts, rules, steps, entries.
+    /// Words in use: counts, rules, steps, entries, direct styles, theirs.
     pub fn used(&self) -> usize {
-        let [rules, steps, _, entries] = [0, 1, 2, 3].map(|k| self.0[k] as usize);
-        8 + 5 * rules + 23 * steps + 3 * entries
+        let [rules, steps, _, entries, styles, own] = [0, 1, 2, 3, 4, 5].map(|k| self.0[k] as usize);
+        8 + 5 * rules + 23 * steps + 3 * entries + 3 * styles + 3 * own
     }
+}
+
+fn entries(properties: &[u16]) -> (Vec<u32>, Vec<u32>, usize) {
+    let n = properties.len();
+    (vec![0; n], properties.iter().map(|&id| u32::from(id)).collect(), n)
 }
 
 pub struct Table {
@@ -145,6 +189,52 @@ impl Table {
             bench_held_matching(
                 self.states.as_ptr(), self.states.len(), self.matched.as_ptr(), self.matched.len(), state,
                 out.as_mut_ptr(), 256,
+            )
+        }
+    }
+
+    #[inline(always)]
+    pub fn winner(&self, sheet: &Sheet, state: u32, property: u16) -> usize {
+        unsafe {
+            bench_winner(
+                sheet.0.as_ptr(), sheet.0.len(), self.head.as_ptr(), self.states.as_ptr(), self.states.len(),
+                self.cursors.as_ptr(), self.cursors.len(), self.matched.as_ptr(), self.matched.len(),
+                self.transitions.as_ptr(), self.transitions.len(), state, STAMP, u32::from(property),
+            )
+        }
+    }
+
+    /// The caller keeps what the core requires: `is_table`, and a state of it.
+    #[inline(always)]
+    pub unsafe fn held_winner(&self, sheet: &Sheet, state: u32, property: u16) -> usize {
+        unsafe {
+            bench_held_winner(
+                sheet.0.as_ptr(), sheet.0.len(), self.head.as_ptr(), 8, self.states.as_ptr(), self.states.len(),
+                self.cursors.as_ptr(), self.cursors.len(), self.matched.as_ptr(), self.matched.len(),
+                self.transitions.as_ptr(), self.transitions.len(), state, u32::from(property),
+            )
+        }
+    }
+
+    #[inline(always)]
+    pub fn changed(&self, sheet: &Sheet, old: u32, new: u32, out: &mut [u16; CHANGES]) -> usize {
+        unsafe {
+            bench_changed(
+                sheet.0.as_ptr(), sheet.0.len(), self.head.as_ptr(), self.states.as_ptr(), self.states.len(),
+                self.cursors.as_ptr(), self.cursors.len(), self.matched.as_ptr(), self.matched.len(),
+                self.transitions.as_ptr(), self.transitions.len(), old, new, STAMP, out.as_mut_ptr(), CHANGES,
+            )
+        }
+    }
+
+    /// The caller keeps what the core requires: `is_table`, and two states of it.
+    #[inline(always)]
+    pub unsafe fn held_changed(&self, sheet: &Sheet, old: u32, new: u32, out: &mut [u16; CHANGES]) -> usize {
+        unsafe {
+            bench_held_changed(
+                sheet.0.as_ptr(), sheet.0.len(), self.head.as_ptr(), 8, self.states.as_ptr(), self.states.len(),
+                self.cursors.as_ptr(), self.cursors.len(), self.matched.as_ptr(), self.matched.len(),
+                self.transitions.as_ptr(), self.transitions.len(), old, new, out.as_mut_ptr(),
             )
         }
     }

@@ -1,12 +1,15 @@
-//! The published matcher.
+//! The published cascade.
 
-use understory_style::matcher::{MatchState, Matcher, MatcherBuilder};
+use understory_property::{Property, PropertyId};
+use understory_style::matcher::{MatchState, StyleCascade, StyleCascadeBuilder, StyleSourceRef};
 use understory_style::selector::{
     ClassId, PseudoClassId, Selector, SelectorCombinator, SelectorInputs, SelectorStep, TypeTag,
 };
-use understory_style::style::StyleBuilder;
+use understory_style::style::{Style, StyleBuilder};
+use understory_style::stylesheet::StyleOrigin;
 
-use crate::cases::{Call, Rule, Subject};
+use crate::cases::{Call, Rule, Sources, Subject};
+use crate::proved::{DIRECT, NOBODY};
 
 /// A subject's ids as the published code lends them.
 pub struct Lent {
@@ -45,24 +48,37 @@ fn selector_of(rule: &Rule) -> Selector {
     Selector::from_steps_with_combinators(steps, codes)
 }
 
-/// A matcher, and its states in the order of first entry.
+fn style_of(properties: &[u16]) -> Style {
+    let set = |style: StyleBuilder, &id: &u16| {
+        let property = Property::<u32>::from_id(PropertyId::new(id));
+        style.set(property, u32::from(id))
+    };
+    properties.iter().fold(StyleBuilder::new(), set).build()
+}
+
+/// A cascade, and its states in the order of first entry.
 pub struct Walked {
-    pub matcher: Matcher,
+    pub cascade: StyleCascade,
     pub states: Vec<MatchState>,
 }
 
 impl Walked {
-    pub fn new(rules: &[Rule]) -> Self {
-        let builder = rules.iter().fold(MatcherBuilder::new(), |builder, rule| {
-            builder.rule(selector_of(rule), StyleBuilder::new().build())
-        });
-        let matcher = builder.build();
-        let states = vec![matcher.root_state()];
-        Self { matcher, states }
+    /// The direct styles come first, with origins 0 and 1 by turns; the rules
+    /// are one group of origin 1, so that a rule's order is its number.
+    pub fn new(sources: &Sources) -> Self {
+        let mut builder = StyleCascadeBuilder::new();
+        for (style, k) in sources.styles.iter().zip(0..) {
+            builder = builder.push_style(StyleOrigin(k % 2), style_of(style));
+        }
+        let rules = sources.rules.iter();
+        let rules = rules.map(|rule| (selector_of(rule), style_of(&rule.properties)));
+        let cascade = builder.push_rules(StyleOrigin(1), rules).build();
+        let states = vec![cascade.root_state()];
+        Self { cascade, states }
     }
 
     pub fn enter(&mut self, parent: u32, lent: &Lent) -> u32 {
-        let child = self.matcher.enter_subject(self.states[parent as usize], &lent.inputs());
+        let child = self.cascade.enter_subject(self.states[parent as usize], &lent.inputs());
         let known = self.states.iter().position(|&known| known == child);
         let number = known.unwrap_or_else(|| {
             self.states.push(child);
@@ -71,23 +87,54 @@ impl Walked {
         number as u32
     }
 
-    /// The same calls on a new matcher, with no look at the answers but for
-    /// those that are new states.
-    pub fn grown(rules: &[Rule], calls: &[Call]) -> Self {
-        let mut walked = Self::new(rules);
+    /// With no look at the answer but whether it is the next new state.
+    #[inline(always)]
+    pub fn enter_known(&mut self, call: &Call) {
+        let parent = self.states[call.parent as usize];
+        let child = self.cascade.enter_subject(parent, &call.lent.inputs());
+        if call.child as usize == self.states.len() {
+            self.states.push(child);
+        }
+    }
+
+    /// The same calls on a new cascade.
+    pub fn grown(sources: &Sources, calls: &[Call]) -> Self {
+        let mut walked = Self::new(sources);
         for call in calls {
-            let child = walked
-                .matcher
-                .enter_subject(walked.states[call.parent as usize], &call.lent.inputs());
-            if call.child as usize == walked.states.len() {
-                walked.states.push(child);
-            }
+            walked.enter_known(call);
         }
         walked
     }
 
     pub fn matched(&self, state: u32) -> Vec<u32> {
-        let rules = self.matcher.matching_rules(self.states[state as usize]);
+        let rules = self.cascade.matching_rules(self.states[state as usize]);
         rules.map(|rule| rule.order()).collect()
+    }
+
+    /// The winner by the proved side's numbers.
+    #[inline(always)]
+    pub fn winner(&self, state: u32, property: u16) -> usize {
+        let state = self.states[state as usize];
+        match self.cascade.winning_source_for_id(state, PropertyId::new(property)) {
+            None => NOBODY,
+            Some(StyleSourceRef::Rule(rule)) => rule.order() as usize,
+            Some(StyleSourceRef::Direct { source_index, .. }) => DIRECT + source_index,
+        }
+    }
+
+    pub fn changed(&self, old: u32, new: u32) -> Vec<u16> {
+        let set = self
+            .cascade
+            .changed_properties(self.states[old as usize], self.states[new as usize]);
+        set.property_ids().iter().map(|id| id.index()).collect()
+    }
+
+    /// The ids that change, each one more, added up.
+    #[inline(always)]
+    pub fn changed_sum(&self, old: u32, new: u32) -> u64 {
+        let set = self
+            .cascade
+            .changed_properties(self.states[old as usize], self.states[new as usize]);
+        set.property_ids().iter().map(|id| u64::from(id.index()) + 1).sum()
     }
 }
