@@ -154,6 +154,39 @@ pub fn middle_subject(r: &mut Random) -> Subject {
     }
 }
 
+/// As in a book: a type, a class, or a class somewhere within a type; an
+/// element has several of them.
+pub fn book(r: &mut Random) -> Sources {
+    let of_type = |r: &mut Random| Subject {
+        type_tag: Some(r.below(8)),
+        ..Subject::default()
+    };
+    let rule = |k: u32| {
+        let (types, classes) = (of_type(r), class(&r.ids(1, 12)));
+        let steps = match k % 3 {
+            0 => vec![types],
+            1 => vec![classes],
+            _ => vec![types, classes],
+        };
+        let codes = vec![1; steps.len() - 1];
+        Rule {
+            steps,
+            codes,
+            properties: vec![],
+        }
+    };
+    dressed((0..48).map(rule).collect(), 2, 6, 20)
+}
+
+pub fn book_subject(r: &mut Random) -> Subject {
+    let (n, t) = (1 + r.below(3) as usize, r.below(8));
+    Subject {
+        type_tag: Some(t),
+        classes: r.ids(n, 12),
+        pseudos: vec![],
+    }
+}
+
 /// 1 to 8 steps of one or two classes, every third with a pseudo-class.
 pub fn large(r: &mut Random) -> Sources {
     let step = |r: &mut Random| {

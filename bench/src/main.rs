@@ -21,7 +21,7 @@ fn largest() -> Case {
     drawn("F", large, large_subject, 400, 800)
 }
 
-fn tables() -> [Case; 6] {
+fn tables() -> [Case; 7] {
     [
         drawn("A", small, small_subject, 4, 8),
         drawn("B", small, small_subject, 6, 400),
@@ -29,19 +29,23 @@ fn tables() -> [Case; 6] {
         drawn("D", middle, middle_subject, 400, 800),
         drawn("E", large, large_subject, 8, 12),
         largest(),
+        drawn("G", book, book_subject, 400, 800),
     ]
 }
 
-fn walks() -> [Case; 3] {
+fn walks() -> [Case; 4] {
     [
         walk("small sheet", small, small_subject, 40, 2000),
         walk("middle sheet", middle, middle_subject, 16, 2000),
         walk("largest sheet", large, large_subject, 12, 300),
+        walk("book sheet", book, book_subject, 16, 2000),
     ]
 }
 
 struct Wanted {
     parts: Vec<Part>,
+    /// Only these tables; all, if there are none.
+    tables: Vec<String>,
     reps: usize,
 }
 
@@ -64,7 +68,7 @@ impl Wanted {
             run.rows.push(bench.matched());
         }
         // what only grows with the table is the test
-        if ["B", "D", "F"].contains(&case.name.as_str()) {
+        if ["B", "D", "F", "G"].contains(&case.name.as_str()) {
             if self.has(Part::Winners) {
                 bench.winners(&mut run.rows);
             }
@@ -95,7 +99,8 @@ impl Wanted {
         let mut run = Run::default();
         let on_tables = [Part::Entering, Part::Matched, Part::Winners, Part::Changes];
         if on_tables.iter().any(|&part| self.has(part)) {
-            for case in tables() {
+            let wanted = |case: &Case| self.tables.is_empty() || self.tables.contains(&case.name);
+            for case in tables().into_iter().filter(wanted) {
                 eprintln!("{of}: table {}", case.name);
                 self.on_table(&case, &mut run);
             }
@@ -162,12 +167,14 @@ fn main() {
     if cfg!(debug_assertions) {
         panic!("measure with --release");
     }
-    let (mut markdown, mut file, mut parts) = (false, None, vec![]);
+    let (mut markdown, mut file) = (false, None);
+    let (mut parts, mut tables) = (vec![], vec![]);
     let mut words = std::env::args().skip(1);
     while let Some(word) = words.next() {
         match word.as_str() {
             "--markdown" => markdown = true,
             "--write" => file = Some(words.next().expect("the file after --write")),
+            "A" | "B" | "C" | "D" | "E" | "F" | "G" => tables.push(word),
             name => {
                 let known = PARTS.into_iter().find(|part| part.name() == name);
                 parts.push(known.unwrap_or_else(|| panic!("no part {name}")));
@@ -177,8 +184,8 @@ fn main() {
     if parts.is_empty() {
         parts = PARTS.to_vec();
     }
-    let (runs, reps) = (count("RUNS", 5).max(1), count("REPS", 5).max(1));
-    let wanted = Wanted { parts, reps };
+    let (runs, reps) = (count("RUNS", 5).max(1), count("REPS", 7).max(1));
+    let wanted = Wanted { parts, tables, reps };
     let stacks = if wanted.has(Part::Memory) { memory::stacks(largest) } else { vec![] };
     let runs: Vec<Run> = (1..=runs).map(|k| wanted.run(&format!("run {k} of {runs}"))).collect();
     let report = Report(&runs);
