@@ -36,7 +36,11 @@ fn block<Q: Copy>(asked: &[Asked<Q>], step: usize, rounds: usize, mut ask: impl 
 }
 
 fn step_of(side: usize, questions: usize) -> usize {
-    if side == PUBLIC && questions >= 4 * FEWER { FEWER } else { 1 }
+    if side == PUBLIC && questions >= 4 * FEWER {
+        FEWER
+    } else {
+        1
+    }
 }
 
 /// What the four sides answer.
@@ -106,7 +110,11 @@ impl Bench<'_> {
         let ask = |(state, property): Winner| {
             let answer = walked.winner(state, property);
             let name = &self.case.name;
-            assert_eq!(self.grown.winner(&self.sheet, state, property), answer, "{name}: winner");
+            assert_eq!(
+                self.grown.winner(&self.sheet, state, property),
+                answer,
+                "{name}: winner"
+            );
             let core = unsafe { self.grown.held_winner(&self.sheet, state, property) };
             assert_eq!(core, answer, "{name}: winner, core");
             Asked {
@@ -227,7 +235,7 @@ impl Bench<'_> {
             clock::rounds_for(once)
         });
         for rep in 0..=self.reps {
-            for side in clock::turn(rep, SIDES) {
+            for side in clock::turn(SIDES) {
                 times.add(rep, side, run(side, rounds[side]));
             }
         }
@@ -242,7 +250,7 @@ impl Bench<'_> {
         let mut out = [0; CHANGES];
         let mut tables: Vec<Table> = (0..copies).map(|_| self.table()).collect();
         for rep in 0..=self.reps {
-            for side in clock::turn(rep, SIDES) {
+            for side in clock::turn(SIDES) {
                 let step = step_of(side, asked.len());
                 let mut sum = 0u64;
                 let mut all = |ask: &mut dyn FnMut(Q) -> u64| {

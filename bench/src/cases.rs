@@ -368,7 +368,7 @@ fn waiting(first: impl Iterator<Item = u32>) -> Sources {
 pub fn cursors(count: u32) -> Case {
     let call = |k: u32, child| Call::new(0, &class(&[1000 + k]), child);
     Case {
-        name: format!("{count} root cursors"),
+        name: format!("root cursors: {count}"),
         sources: waiting((0..count).map(|_| 1)),
         grow: vec![call(0, 1)],
         cached: vec![],
@@ -382,7 +382,7 @@ pub fn cursors(count: u32) -> Case {
 pub fn chain(count: u32) -> Case {
     let call = |k: u32| Call::new(0, &class(&[1000 + k]), 1);
     Case {
-        name: format!("{count} transitions of the parent"),
+        name: format!("transitions of the parent: {count}"),
         sources: waiting([1].into_iter()),
         grow: (0..count).map(call).collect(),
         cached: vec![call(count - 1)],
@@ -406,7 +406,7 @@ pub fn search(count: u32, prefix: u32) -> Case {
         .map(|k| Call::new(count - 1, &class(&[1000 + k]), count - 1))
         .collect();
     Case {
-        name: format!("{count} states, {prefix} common"),
+        name: format!("states: {count}, common: {prefix}"),
         sources,
         grow,
         cached: vec![],

@@ -1,6 +1,9 @@
 //! Times by turns, and their medians.
 
 use std::sync::LazyLock;
+use std::sync::atomic::{AtomicU64, Ordering::Relaxed};
+
+use crate::cases::Random;
 
 unsafe extern "C" {
     fn clock_gettime(clock: i32, out: *mut [i64; 2]) -> i32;
@@ -33,15 +36,18 @@ pub fn timed(calls: usize, body: impl FnOnce()) -> f64 {
     (now() - start - reading) / calls as f64
 }
 
-/// The sides in an order that moves on with every repetition.
-pub fn turn(rep: usize, sides: usize) -> impl Iterator<Item = usize> {
-    (0..sides).map(move |k| {
-        if rep % 2 == 0 {
-            (k + rep / 2) % sides
-        } else {
-            (2 * sides - 1 - k + rep / 2) % sides
-        }
-    })
+/// The sides in an order drawn anew each time, so that none follows another
+/// more often than the rest do; the draws are the same in every call of the
+/// program.
+pub fn turn(sides: usize) -> Vec<usize> {
+    static DRAWN: AtomicU64 = AtomicU64::new(0x9E37_79B9_7F4A_7C15);
+    let mut random = Random(DRAWN.load(Relaxed));
+    let mut order: Vec<usize> = (0..sides).collect();
+    for k in (1..sides).rev() {
+        order.swap(k, random.below(k as u32 + 1) as usize);
+    }
+    DRAWN.store(random.0, Relaxed);
+    order
 }
 
 /// Rounds that make a block of about half a millisecond.

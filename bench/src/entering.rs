@@ -6,7 +6,7 @@ use crate::cases::{Call, Case};
 use crate::clock::{self, Times, timed};
 use crate::proved::{Sheet, Table};
 use crate::published::Walked;
-use crate::rows::{AGAIN, CORE, PUBLIC, Part, RUST, Row, SIDES, Shape};
+use crate::rows::{AGAIN, CORE, PUBLIC, Part, RUST, Row, SIDES, Shape, grouped};
 
 pub struct Bench<'a> {
     pub case: &'a Case,
@@ -95,7 +95,7 @@ impl<'a> Bench<'a> {
             clock::rounds_for(once)
         });
         for rep in 0..=self.reps {
-            for side in clock::turn(rep, SIDES) {
+            for side in clock::turn(SIDES) {
                 let time = self.round(side, calls, rounds[side], &mut table, &walked);
                 times.add(rep, side, time);
             }
@@ -153,7 +153,7 @@ impl<'a> Bench<'a> {
         let mut times = Times::new(SIDES);
         let mut children = vec![0; copies * calls.len()];
         for rep in 0..=self.reps {
-            for side in clock::turn(rep, SIDES) {
+            for side in clock::turn(SIDES) {
                 let time = if side < RUST {
                     for table in &mut tables {
                         table.restore(&self.grown);
@@ -207,7 +207,7 @@ impl<'a> Bench<'a> {
         let mut times = Times::new(SIDES);
         let mut out = [0; 256];
         for rep in 0..=self.reps {
-            for side in clock::turn(rep, SIDES) {
+            for side in clock::turn(SIDES) {
                 let rounds = 1 + if side == PUBLIC { 127 } else { 4000 } / n as usize;
                 let mut sum = 0u64;
                 let time = timed(rounds * n as usize, || {
@@ -245,7 +245,7 @@ impl<'a> Bench<'a> {
         let words = self.sheet.used() + self.grown.used();
         let rounds = (200_000 / words).max(1);
         for rep in 0..=self.reps {
-            for side in clock::turn(rep, 2) {
+            for side in clock::turn(2) {
                 let mut all = true;
                 let time = timed(rounds, || {
                     for _ in 0..rounds {
@@ -263,7 +263,7 @@ impl<'a> Bench<'a> {
         let rules = self.case.sources.rules.len();
         Shape {
             table: self.case.name.clone(),
-            sheet: format!("{rules} rules, {steps} steps"),
+            sheet: format!("{rules} rules, {} steps", grouped(steps)),
             counts: self.grown.counts(),
             words,
             tests: [times.median(0), times.median(1)],

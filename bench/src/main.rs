@@ -35,10 +35,10 @@ fn tables() -> [Case; 7] {
 
 fn walks() -> [Case; 4] {
     [
-        walk("small sheet", small, small_subject, 40, 2000),
-        walk("middle sheet", middle, middle_subject, 16, 2000),
-        walk("largest sheet", large, large_subject, 12, 300),
-        walk("book sheet", book, book_subject, 16, 2000),
+        walk("small walk", small, small_subject, 40, 2000),
+        walk("middle walk", middle, middle_subject, 16, 2000),
+        walk("largest walk", large, large_subject, 12, 300),
+        walk("book walk", book, book_subject, 16, 2000),
     ]
 }
 
@@ -91,7 +91,8 @@ impl Wanted {
         }
         for count in [1, 8, 64, 512] {
             let case = chain(count);
-            run.rows.extend(Bench::new(&case, self.reps).cached(Part::Grows, "cached"));
+            run.rows
+                .extend(Bench::new(&case, self.reps).cached(Part::Grows, "cached"));
         }
     }
 
@@ -106,13 +107,12 @@ impl Wanted {
             }
         }
         if self.has(Part::Walks) {
-            for mut case in walks() {
-                eprintln!("{of}: a walk, {}", case.name);
-                let [states, _, _, transitions] = Bench::new(&case, 1).left();
-                case.name += &format!(", {states} states and {transitions} transitions in the end");
+            for case in walks() {
+                eprintln!("{of}: {}", case.name);
                 let bench = Bench::new(&case, self.reps);
                 run.rows.extend(bench.once(Part::Walks, "entered, fresh", &case.held));
                 bench.reads(&mut run.rows);
+                run.shapes.push(bench.left());
             }
         }
         if self.has(Part::Grows) {
@@ -120,7 +120,8 @@ impl Wanted {
             self.growing(&mut run);
         }
         // stable: rows of a part stand together
-        run.rows.sort_by_key(|row| PARTS.iter().position(|&part| part == row.part));
+        run.rows
+            .sort_by_key(|row| PARTS.iter().position(|&part| part == row.part));
         run
     }
 }
@@ -186,7 +187,11 @@ fn main() {
     }
     let (runs, reps) = (count("RUNS", 5).max(1), count("REPS", 7).max(1));
     let wanted = Wanted { parts, tables, reps };
-    let stacks = if wanted.has(Part::Memory) { memory::stacks(largest) } else { vec![] };
+    let stacks = if wanted.has(Part::Memory) {
+        memory::stacks(largest)
+    } else {
+        vec![]
+    };
     let runs: Vec<Run> = (1..=runs).map(|k| wanted.run(&format!("run {k} of {runs}"))).collect();
     let report = Report(&runs);
     let pieces = pieces(&report, &wanted, &stacks);

@@ -85,7 +85,10 @@ fn stacks_here(case: &Case) -> Vec<Stack> {
             ],
         )
     };
-    let mut stacks = vec![enter("entering, cached", &case.cached), enter("entering, new state", &case.new)];
+    let mut stacks = vec![
+        enter("entering, cached", &case.cached),
+        enter("entering, new state", &case.new),
+    ];
     let (table, walked) = (bench.table(), bench.walked());
     stacks.push(Stack(
         "matched list",
@@ -155,7 +158,9 @@ pub fn stacks(case: fn() -> Case) -> Vec<Stack> {
 
 /// A number that a layout names.
 fn constant(layout: &str, name: &str) -> usize {
-    let at = layout.find(&format!("pub const {name}: ")).expect("a constant of the layout");
+    let at = layout
+        .find(&format!("pub const {name}: "))
+        .expect("a constant of the layout");
     let value = layout[at..].split('=').nth(1).expect("its value");
     let value = value.split(';').next().expect("its end");
     value.trim().parse().expect("a number")
@@ -191,7 +196,13 @@ pub fn print(stacks: &[Stack]) {
         println!("  {name:22} {:>8} {:>8} {:>8}", cell(*public), cell(*core), cell(*rust));
     }
     let deepest = |of: usize| cell(stacks.iter().filter_map(|stack| stack.1[of]).max());
-    println!("  {:22} {:>8} {:>8} {:>8}", "the deepest", deepest(0), deepest(1), deepest(2));
+    println!(
+        "  {:22} {:>8} {:>8} {:>8}",
+        "the deepest",
+        deepest(0),
+        deepest(1),
+        deepest(2)
+    );
     println!("\nlent, bytes");
     for (name, bytes) in lent() {
         println!("  {name:30} {bytes}");

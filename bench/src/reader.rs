@@ -9,7 +9,7 @@ use crate::clock::{self, Times, timed};
 use crate::entering::Bench;
 use crate::proved::{CHANGES, Table};
 use crate::published::Walked;
-use crate::rows::{CORE, PUBLIC, Part, Row, SIDES};
+use crate::rows::{CORE, PUBLIC, Part, Row, SIDES, Shape};
 
 /// Three that many sources have, one that none has.
 const ASKED: [u16; 4] = [0, 1, 2, OF_NOBODY];
@@ -73,7 +73,11 @@ impl Bench<'_> {
         let (sheet, name) = (&self.sheet, &self.case.name);
         let mut out = [0; CHANGES];
         for (call, before) in self.visits() {
-            assert_eq!(table.enter(sheet, call.parent, &call.row), call.child, "{name}: entering");
+            assert_eq!(
+                table.enter(sheet, call.parent, &call.row),
+                call.child,
+                "{name}: entering"
+            );
             assert_eq!(walked.enter(call.parent, &call.lent), call.child, "{name}: published");
             for property in ASKED {
                 let winner = walked.winner(call.child, property);
@@ -96,7 +100,7 @@ impl Bench<'_> {
         let mut out = [0; CHANGES];
         let mut first = None;
         for rep in 0..=self.reps {
-            for side in clock::turn(rep, SIDES) {
+            for side in clock::turn(SIDES) {
                 let mut sums = [0; 2];
                 let mut walked = self.walked();
                 table.restore(&self.grown);
@@ -119,12 +123,11 @@ impl Bench<'_> {
         rows.push(self.row(Part::Walks, "read, again", &warm));
     }
 
-    /// What the walk leaves.
-    pub fn left(&self) -> [usize; 4] {
-        let mut table = self.table();
+    /// The shape of the table that the walk leaves.
+    pub fn left(mut self) -> Shape {
         for call in &self.case.held {
-            table.enter(&self.sheet, call.parent, &call.row);
+            self.grown.enter(&self.sheet, call.parent, &call.row);
         }
-        table.counts()
+        self.shape()
     }
 }
