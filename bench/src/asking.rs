@@ -7,7 +7,7 @@ use crate::clock::{self, Times, timed};
 use crate::entering::Bench;
 use crate::proved::{CHANGES, Table};
 use crate::published::Walked;
-use crate::rows::{AGAIN, CORE, PUBLIC, Part, RUST, Row, SIDES};
+use crate::rows::{CORE, PUBLIC, Part, RUST, Row, SIDES};
 
 /// A question and what both sides answer, as one number.
 struct Asked<Q> {
@@ -230,10 +230,8 @@ impl Bench<'_> {
             assert_eq!(sum, answers.wrapping_mul(rounds as u64), "answers");
             time
         };
-        let rounds = [PUBLIC, CORE, RUST, AGAIN].map(|side| {
-            let once = run(side, 1) * asked.len().div_ceil(step_of(side, asked.len())) as f64;
-            clock::rounds_for(once)
-        });
+        let questions = |side| asked.len().div_ceil(step_of(side, asked.len())) as f64;
+        let rounds = clock::rounds(|side| run(side, 1) * questions(side));
         for rep in 0..=self.reps {
             for side in clock::turn(SIDES) {
                 times.add(rep, side, run(side, rounds[side]));

@@ -50,9 +50,17 @@ pub fn turn(sides: usize) -> Vec<usize> {
     order
 }
 
-/// Rounds that make a block of about half a millisecond.
-pub fn rounds_for(once: f64) -> usize {
-    (5e5 / once.max(1.0)).clamp(1.0, 2000.0) as usize
+/// Rounds that make a block of about a millisecond, for each side, by a round
+/// that is not its first. The Rust's two sides, which come last, have equally
+/// many: what a first round takes from memory counts alike for both.
+pub fn rounds(mut once: impl FnMut(usize) -> f64) -> [usize; 4] {
+    let mut rounds = [0, 1, 2, 3].map(|side| {
+        once(side);
+        (1e6 / once(side).max(1.0)).clamp(1.0, 4000.0) as usize
+    });
+    rounds[2] = rounds[2].max(rounds[3]);
+    rounds[3] = rounds[2];
+    rounds
 }
 
 pub struct Times(Vec<Vec<f64>>);

@@ -6,7 +6,7 @@ use crate::cases::{Call, Case};
 use crate::clock::{self, Times, timed};
 use crate::proved::{Sheet, Table};
 use crate::published::Walked;
-use crate::rows::{AGAIN, CORE, PUBLIC, Part, RUST, Row, SIDES, Shape, grouped};
+use crate::rows::{CORE, PUBLIC, Part, RUST, Row, SIDES, Shape, grouped};
 
 pub struct Bench<'a> {
     pub case: &'a Case,
@@ -90,10 +90,7 @@ impl<'a> Bench<'a> {
         let mut table = self.table();
         let walked = [0, 1].map(|_| self.walked());
         let mut times = Times::new(SIDES);
-        let rounds = [PUBLIC, CORE, RUST, AGAIN].map(|side| {
-            let once = self.round(side, calls, 1, &mut table, &walked) * calls.len() as f64;
-            clock::rounds_for(once)
-        });
+        let rounds = clock::rounds(|side| self.round(side, calls, 1, &mut table, &walked) * calls.len() as f64);
         for rep in 0..=self.reps {
             for side in clock::turn(SIDES) {
                 let time = self.round(side, calls, rounds[side], &mut table, &walked);

@@ -185,7 +185,7 @@ fn main() {
     if parts.is_empty() {
         parts = PARTS.to_vec();
     }
-    let (runs, reps) = (count("RUNS", 5).max(1), count("REPS", 7).max(1));
+    let (runs, reps) = (count("RUNS", 5).max(1), count("REPS", 5).max(1));
     let wanted = Wanted { parts, tables, reps };
     let stacks = if wanted.has(Part::Memory) {
         memory::stacks(largest)
