@@ -1,6 +1,6 @@
 # make demo   the main job, on a small example
 # make test   the gate: proofs, must-fail edits, programs, and the comparison with the published Rust
-# make bench  what calls cost against the published Rust, in time and memory: some four minutes, not part of the gate (RUNS=n sets how many runs)
+# make bench  what calls cost against the published Rust, in time and memory: some three minutes on a quiet machine, not part of the gate (RUNS=n sets how many runs)
 # make help   this list
 .PHONY: help demo test bench compare store clean
 
