@@ -90,17 +90,39 @@ module _ (w rules : List ℕ) (n y x : ℕ) (d : y ≡ x) (e : x ≡ Layout.rule
   unfolding rulesOver
   rules-last h = rw (le-ltb 256 (Layout.rulesIn w + n) (omega (arith, rules-few)))
 
--- ---- a style: each verdict in turn
+-- ---- a source: the sheet's shape and the origin, before other checks
 
-module _ (w : List ℕ) (origin : ℕ) (properties kinds numbers : List ℕ) (n a : ℕ) (f : a ≡ firstOf (frontChecks w origin)) where
-  pub style-front : (a ≡ 0 → ⊥) → a ≡ stylePushVerdict w origin properties kinds numbers n
+module _ (w : List ℕ) (origin : ℕ) (l : List Check) (s : sheetShape w ≡ true) where
+  origin-hit : 7 < origin → 6 ≡ firstOf (frontChecks w origin ++ l)
+  origin-hit h = unless-pass 11 6 true (sheetShape w) _ (sym s) refl (limit-hit 6 7 origin l h)
+
+  origin-pass : origin ≤ 7 → (r : ℕ) → r ≡ firstOf l → r ≡ firstOf (frontChecks w origin ++ l)
+  origin-pass h r e = unless-pass 11 r true (sheetShape w) _ (sym s) refl (limit-pass 6 r 7 origin l h e)
+
+-- the shape as it was tested
+module _ (w : List ℕ) (b : Bool) (e : b ≡ sheetShape w) where
+  pub in-shape : not b ≡ false → sheetShape w ≡ true
+  in-shape f = sym e ∙ not-false b f
+
+  pub style-shapeless : not b ≡ true → (origin : ℕ) (properties kinds numbers : List ℕ) (n : ℕ) → 11 ≡ stylePushVerdict w origin properties kinds numbers n
   unfolding stylePushVerdict
-  style-front h = first-stop (frontChecks w origin) _ a f h
+  style-shapeless f origin properties kinds numbers n = unless-hit 11 b (sheetShape w) _ e f
 
-  module _ (z : a ≡ 0) (b : ℕ) (g : b ≡ firstOf (styleSizeChecks w properties kinds numbers n)) where
+  pub group-shapeless : not b ≡ true → (origin : ℕ) (g : Group) (n : ℕ) → 11 ≡ groupVerdict w origin g n
+  unfolding groupVerdict
+  group-shapeless f origin g n = unless-hit 11 b (sheetShape w) _ e f
+
+-- ---- a style onto a sheet in shape: each verdict in turn
+
+module _ (w : List ℕ) (origin : ℕ) (properties kinds numbers : List ℕ) (n : ℕ) (s : sheetShape w ≡ true) where
+  pub style-origin : 7 < origin → 6 ≡ stylePushVerdict w origin properties kinds numbers n
+  unfolding stylePushVerdict
+  style-origin h = origin-hit w origin _ s h
+
+  module _ (o : origin ≤ 7) (b : ℕ) (g : b ≡ firstOf (styleSizeChecks w properties kinds numbers n)) where
     style-past : (r : ℕ) → r ≡ firstOf (styleSizeChecks w properties kinds numbers n ++ (formChecks properties kinds n ++ indexChecks w)) → r ≡ stylePushVerdict w origin properties kinds numbers n
     unfolding stylePushVerdict
-    style-past r e = first-go (frontChecks w origin) _ a r f z refl e
+    style-past r e = origin-pass w origin _ s o r e
 
     pub style-over : (b ≡ 0 → ⊥) → b ≡ stylePushVerdict w origin properties kinds numbers n
     style-over h = style-past b (first-stop (styleSizeChecks w properties kinds numbers n) _ b g h)
@@ -155,15 +177,15 @@ rule-from steps steps′ combinators combinators′ properties properties′ kin
 
 -- ---- a group, likewise
 
-module _ (w : List ℕ) (origin : ℕ) (g : Group) (n a : ℕ) (f : a ≡ firstOf (frontChecks w origin)) where
-  pub group-front : (a ≡ 0 → ⊥) → a ≡ groupVerdict w origin g n
+module _ (w : List ℕ) (origin : ℕ) (g : Group) (n : ℕ) (s : sheetShape w ≡ true) where
+  pub group-origin : 7 < origin → 6 ≡ groupVerdict w origin g n
   unfolding groupVerdict
-  group-front h = first-stop (frontChecks w origin) _ a f h
+  group-origin h = origin-hit w origin _ s h
 
-  module _ (z : a ≡ 0) (o : Bool) (p : o ≡ rulesOver w (g .rules) n) where
+  module _ (z : origin ≤ 7) (o : Bool) (p : o ≡ rulesOver w (g .rules) n) where
     pub group-over : o ≡ true → 2 ≡ groupVerdict w origin g n
     unfolding groupVerdict
-    group-over h = first-go (frontChecks w origin) _ a 2 f z refl (first-hit 2 o (rulesOver w (g .rules) n) _ p h)
+    group-over h = origin-pass w origin _ s z 2 (first-hit 2 o (rulesOver w (g .rules) n) _ p h)
 
     module _ (q : o ≡ false) (i₀ i e v : ℕ) (j : i ≡ i₀) (k : i₀ ≡ Layout.idsIn w) (l : e ≡ allEntriesIn w) (u : v ≡ firstOf (checksBelow n (ruleChecks i e g))) where
       each-is : v ≡ firstOf (checksBelow n (ruleChecks (Layout.idsIn w) (allEntriesIn w) g))
@@ -171,7 +193,7 @@ module _ (w : List ℕ) (origin : ℕ) (g : Group) (n a : ℕ) (f : a ≡ firstO
 
       group-past : (r : ℕ) → r ≡ firstOf (checksBelow n (ruleChecks (Layout.idsIn w) (allEntriesIn w) g) ++ indexChecks w) → r ≡ groupVerdict w origin g n
       unfolding groupVerdict
-      group-past r h = first-go (frontChecks w origin) _ a r f z refl (first-pass 2 r o (rulesOver w (g .rules) n) _ p q h)
+      group-past r h = origin-pass w origin _ s z r (first-pass 2 r o (rulesOver w (g .rules) n) _ p q h)
 
       pub group-rule : (v ≡ 0 → ⊥) → v ≡ groupVerdict w origin g n
       group-rule h = group-past v (first-stop (checksBelow n (ruleChecks (Layout.idsIn w) (allEntriesIn w) g)) _ v each-is h)
@@ -181,13 +203,9 @@ module _ (w : List ℕ) (origin : ℕ) (g : Group) (n a : ℕ) (f : a ≡ firstO
           let checks = ruleChecks (Layout.idsIn w) (allEntriesIn w) g in
           group-past r (first-go (checksBelow n checks) _ v r each-is y (positive-below checks (rule-numbers (Layout.idsIn w) (allEntriesIn w) g) n) h)
 
--- what its callees ask, where t is the test of the origin
-module _ (w : List ℕ) (t : Bool) (a : ℕ) (f : a ≡ firstOf (check 11 (not (sheetShape w)) ∷ check 6 t ∷ [])) (z : a ≡ 0) where
-  pub front-shape : sheetShape w ≡ true
-  front-shape = not-false _ (first-clear 11 (not (sheetShape w)) _ (omega arith) (sym f ∙ z) .0)
-
-  pub group-few : (rules : List ℕ) (n : ℕ) (o : Bool) → o ≡ rulesOver w rules n → o ≡ false → (i₀ i e : ℕ) → i ≡ i₀ → i₀ ≡ Layout.idsIn w → e ≡ allEntriesIn w
-      → (n ≤ 256) × (i ≤ 8192) × (e ≤ 4096)
-  group-few rules n o p q i₀ i e j k l =
-      let s = shaped w front-shape in
-      (omega (arith, rules-sized w rules n (sym p ∙ q) .0), omega (arith, s .ids), omega (arith, s .entries))
+-- what its callees ask
+pub group-few : (w : List ℕ) → sheetShape w ≡ true → (rules : List ℕ) (n : ℕ) (o : Bool) → o ≡ rulesOver w rules n → o ≡ false → (i₀ i e : ℕ) → i ≡ i₀ → i₀ ≡ Layout.idsIn w → e ≡ allEntriesIn w
+    → (n ≤ 256) × (i ≤ 8192) × (e ≤ 4096)
+group-few w s rules n o p q i₀ i e j k l =
+    let t = shaped w s in
+    (omega (arith, rules-sized w rules n (sym p ∙ q) .0), omega (arith, t .ids), omega (arith, t .entries))

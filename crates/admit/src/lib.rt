@@ -1,3 +1,4 @@
 // When a push is refused: 01's table and its "Order".
 pub mod cascades;
+pub mod held;
 pub mod sources;

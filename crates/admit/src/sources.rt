@@ -26,20 +26,7 @@ ghost use Rattle.style.specs.Checks.{entriesOver, kindsOver, propertiesOff};
 ghost use Rattle.sheet.specs.Shape.{sheetShape};
 ghost use Rattle.sheet.specs.Laying.{idsHeld};
 ghost use Rattle.given.specs.Given.{given};
-ghost use Rattle.given.specs.Pushing.{frontChecks, indexChecks, formChecks, styleSizeChecks, stylePushVerdict, rulesOver, ruleSizeChecks, oneRuleChecks, ruleChecks, groupVerdict};
-
-// 11, 6.
-fn front_verdict(sheet: &[u32], origin: u32) -> u32
-    ensures { λ r. ⌜ r ≡ firstOf (frontChecks (now (sheet .entry)) origin) ⌝ }
-{
-    if !is_sheet(sheet) {
-        return 11;
-    }
-    if 7 < origin {
-        return 6;
-    }
-    0
-}
+ghost use Rattle.given.specs.Pushing.{indexChecks, formChecks, styleSizeChecks, stylePushVerdict, rulesOver, ruleSizeChecks, oneRuleChecks, ruleChecks, groupVerdict};
 
 // 7.
 fn index_verdict(sheet: &[u32]) -> u32
@@ -81,6 +68,32 @@ fn style_sizes(sheet: &[u32], properties: &[u16], kinds: &[u32], numbers: &[u32]
     0
 }
 
+// 6 (origin), 2, 6, 1, 7, of a sheet in shape.
+pub(crate) fn style_fault(
+    sheet: &[u32],
+    origin: u32,
+    properties: &[u16],
+    kinds: &[u32],
+    numbers: &[u32],
+    n: usize,
+) -> u32
+    requires { ⌜ sheetShape (now sheet) ≡ true ⌝ }
+    ensures { λ r. ⌜ r ≡ stylePushVerdict (now (sheet .entry)) origin (now (properties .entry)) (now (kinds .entry)) (now (numbers .entry)) n ⌝ }
+{
+    if 7 < origin {
+        return 6;
+    }
+    let sizes = style_sizes(sheet, properties, kinds, numbers, n);
+    if sizes != 0 {
+        return sizes;
+    }
+    let form = form_verdict(properties, kinds, n);
+    if form != 0 {
+        return form;
+    }
+    index_verdict(sheet)
+}
+
 // "Pushing a style 11, 6 (origin), 2, 6, 1, 7."
 pub fn style_verdict(
     sheet: &[u32],
@@ -92,19 +105,10 @@ pub fn style_verdict(
 ) -> u32
     ensures { λ r. ⌜ r ≡ stylePushVerdict (now (sheet .entry)) origin (now (properties .entry)) (now (kinds .entry)) (now (numbers .entry)) n ⌝ }
 {
-    let front = front_verdict(sheet, origin);
-    if front != 0 {
-        return front;
+    if !is_sheet(sheet) {
+        return 11;
     }
-    let sizes = style_sizes(sheet, properties, kinds, numbers, n);
-    if sizes != 0 {
-        return sizes;
-    }
-    let form = form_verdict(properties, kinds, n);
-    if form != 0 {
-        return form;
-    }
-    index_verdict(sheet)
+    style_fault(sheet, origin, properties, kinds, numbers, n)
 }
 
 // 2, of one rule whose items begin these lists, after `ids` ids and `entries` entries.
@@ -271,8 +275,8 @@ fn rules_over(sheet: &[u32], rules: &[u32], n: usize) -> bool
     rules.len() / 3 < n
 }
 
-// "Pushing a group 11, 6 for the origin, 2 for the number of rules, then each rule in turn 2 (sheet sums so far included), 3, 6, 1, then 7."
-pub fn group_verdict(
+// 6 for the origin, 2 for the number of rules, then each rule in turn 2, 3, 6, 1, then 7, of a sheet in shape.
+pub(crate) fn group_fault(
     sheet: &[u32],
     origin: u32,
     rules: &[u32],
@@ -283,11 +287,11 @@ pub fn group_verdict(
     kinds: &[u32],
     numbers: &[u32],
 ) -> u32
+    requires { ⌜ sheetShape (now sheet) ≡ true ⌝ }
     ensures { λ r. ⌜ r ≡ groupVerdict (now (sheet .entry)) origin (given (now (rules .entry)) (now (steps .entry)) (now (combinators .entry)) (now (properties .entry)) (now (kinds .entry)) (now (numbers .entry))) n ⌝ }
 {
-    let front = front_verdict(sheet, origin);
-    if front != 0 {
-        return front;
+    if 7 < origin {
+        return 6;
     }
     if rules_over(sheet, rules, n) {
         return 2;
@@ -307,4 +311,34 @@ pub fn group_verdict(
         return each;
     }
     index_verdict(sheet)
+}
+
+// "Pushing a group 11, 6 for the origin, 2 for the number of rules, then each rule in turn 2 (sheet sums so far included), 3, 6, 1, then 7."
+pub fn group_verdict(
+    sheet: &[u32],
+    origin: u32,
+    rules: &[u32],
+    n: usize,
+    steps: &[u32],
+    combinators: &[u32],
+    properties: &[u16],
+    kinds: &[u32],
+    numbers: &[u32],
+) -> u32
+    ensures { λ r. ⌜ r ≡ groupVerdict (now (sheet .entry)) origin (given (now (rules .entry)) (now (steps .entry)) (now (combinators .entry)) (now (properties .entry)) (now (kinds .entry)) (now (numbers .entry))) n ⌝ }
+{
+    if !is_sheet(sheet) {
+        return 11;
+    }
+    group_fault(
+        sheet,
+        origin,
+        rules,
+        n,
+        steps,
+        combinators,
+        properties,
+        kinds,
+        numbers,
+    )
 }

@@ -15,7 +15,7 @@ use Rattle.sheet.specs.Layout
 use Rattle.sheet.specs.Laying.{emptied}
 use Rattle.given.specs.Given.{Group}
 use Rattle.given.specs.Pushing
-use Rattle.builder.specs.Answers.{Push, pushingTold}
+use Rattle.builder.specs.Answers.{Push, Pushes, pushingTold}
 use Rattle.builder.specs.declared.Pushing.{Pushing}
 use Rattle.builder.specs.declared.Pushing.the-variants.{Pushed, Refused}
 
@@ -83,6 +83,15 @@ module _ (w u : List ℕ) (v : ℕ) (e : v ≡ Pushing.cascadeVerdict w u) where
   pub cascade-pushed : (after : List ℕ) → v ≡ 0 → after ≡ Pushing.pushedCascade w u → Push (Pushing.cascadeVerdict w u) w (Pushing.pushedCascade w u) Pushed after
   unfolding Pushing.cascadeVerdict
   cascade-pushed after z q = accepted _ refl w _ v e after z q
+
+-- ---- pushes that answer the number itself
+
+module _ (verdict : ℕ) (before pushed : List ℕ) (v : ℕ) (e : v ≡ verdict) where
+  pub number-refused : (v ≡ 0 → ⊥) → Pushes verdict before pushed v before
+  number-refused h = record { answer = e; memory = rw (← e, ne-eqb v 0 h) }
+
+  pub number-pushed : (after : List ℕ) → v ≡ 0 → after ≡ pushed → Pushes verdict before pushed 0 after
+  number-pushed after z q = record { answer = sym z ∙ e; memory = rw (← e, z) q }
 
 -- ---- determined
 

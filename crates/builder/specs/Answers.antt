@@ -16,3 +16,8 @@ pushingTold (Refused r) = told r
 pub record Push (verdict : ℕ) (before pushed : List ℕ) (r : Pushing) (after : List ℕ) : Type 0 where
   pub answer : pushingTold r ≡ answered verdict (0 ∷ [])
   pub memory : after ≡ cond (eqb verdict 0) pushed before
+
+-- The same of a push that answers the number itself
+pub record Pushes (verdict : ℕ) (before pushed : List ℕ) (r : ℕ) (after : List ℕ) : Type 0 where
+  pub answer : r ≡ verdict
+  pub memory : after ≡ cond (eqb verdict 0) pushed before

@@ -9,6 +9,8 @@ ghost use Rattle.given.specs.Given.{given};
 ghost use Rattle.builder.specs.Answers.{Push};
 ghost use Rattle.given.specs.Pushing.{emptyVerdict, stylePushVerdict, pushedStyle, groupVerdict, pushedGroup, cascadeVerdict, pushedCascade};
 
+pub mod held;
+
 pub enum Pushing {
     Pushed,
     Refused(Refusal),

@@ -78,6 +78,16 @@ pub cascade-pushed : (w v : List ℕ) → cascadeVerdict w v ≡ 0
 unfolding pushedCascade
 cascade-pushed w v e = pushed (cascade-ready (cascade-accepted w v e))
 
+-- ---- the shape alone: all that the next push asks of the sheet
+
+pub style-shaped : (w : List ℕ) (origin : ℕ) (properties kinds numbers : List ℕ) (n : ℕ) → Halves properties → sheetShape w ≡ true → stylePushVerdict w origin properties kinds numbers n ≡ 0
+    → sheetShape (pushedStyle w origin properties kinds numbers n) ≡ true
+style-shaped w origin properties kinds numbers n u s e = style-pushed w origin properties kinds numbers n u e .shape
+
+pub group-shaped : (w : List ℕ) (origin : ℕ) (g : Group) (n : ℕ) → Halves (g .properties) → sheetShape w ≡ true → groupVerdict w origin g n ≡ 0
+    → sheetShape (pushedGroup w origin g n) ≡ true
+group-shaped w origin g n u s e = group-pushed w origin g n u e .shape
+
 -- ---- "one without direct styles and rules is accepted and alters nothing"
 
 module _ (w v : List ℕ) (s : sheetShape w ≡ true) (no-styles : Layout.stylesIn v ≡ 0) (no-rules : Layout.rulesIn v ≡ 0) where

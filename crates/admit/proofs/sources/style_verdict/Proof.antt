@@ -1,41 +1,19 @@
 use borrow.Author.Needs.{needs}
-use Rattle.admit.proofs.Ladders.{style-front, style-over, style-form, style-index, style-formable}
+use Rattle.admit.proofs.Ladders.{in-shape, style-shapeless}
 use Rattle.admit.proofs.sources.style_verdict.Statement.{statement}
 use Rattle.admit.proofs.sources.style_verdict.Tie as tie
 
-front-verdict-requires : tie.Need-front-verdict-requires
-front-verdict-requires c κs = search needs
+is-sheet-requires : tie.Need-is-sheet-requires
+is-sheet-requires c κs = search needs
 
 returns : tie.Need-returns
-returns c = search (style-front, needs)
+returns c = search (style-shapeless, needs)
 
-style-sizes-requires : tie.Need-style-sizes-requires
-style-sizes-requires c κs = search needs
+style-fault-requires : tie.Need-style-fault-requires
+style-fault-requires c κs = search (in-shape, needs)
 
 returns-2 : tie.Need-returns-2
-returns-2 c = search (style-over, needs)
-
-form-verdict-requires : tie.Need-form-verdict-requires
-form-verdict-requires c κs = style-formable _ _ _ _ _ _ _ (c .before .style-sizes .ensures) (c .if2 .left)
-
-returns-3 : tie.Need-returns-3
-returns-3 c = search (style-form, needs)
-
-index-verdict-requires : tie.Need-index-verdict-requires
-index-verdict-requires c κs = search needs
-
-returns-4 : tie.Need-returns-4
-returns-4 c = search (style-index, needs)
+returns-2 c = search needs
 
 pub style-verdict-spec : {M : Type 1} → statement M
-style-verdict-spec =
-    tie.close
-    (tie.spec
-    front-verdict-requires
-    returns
-    style-sizes-requires
-    returns-2
-    form-verdict-requires
-    returns-3
-    index-verdict-requires
-    returns-4)
+style-verdict-spec = tie.close (tie.spec is-sheet-requires returns style-fault-requires returns-2)
