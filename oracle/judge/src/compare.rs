@@ -321,8 +321,8 @@ fn tell_file(
     let mut offset = 0;
     for piece in pieces(&small) {
         match read(piece) {
-            Some((record, _)) => told += &format!("at {offset}: {record:?}\n"),
-            None => told += &format!("at {offset}: no record\n"),
+            Ok((record, _)) => told += &format!("at {offset}: {record:?}\n"),
+            Err(_) => told += &format!("at {offset}: no record\n"),
         }
         offset += piece.len();
     }

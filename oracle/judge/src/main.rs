@@ -5,6 +5,7 @@ mod asking;
 mod batches;
 mod builds;
 mod compare;
+mod faults;
 mod generate;
 mod lists;
 mod options;
@@ -19,6 +20,8 @@ mod tests;
 mod tests_of_builds;
 #[cfg(test)]
 mod tests_of_cascades;
+#[cfg(test)]
+mod tests_of_files;
 #[cfg(test)]
 mod tests_of_walks;
 mod walk;

@@ -3,6 +3,8 @@
 //! Only the form is read here. Which codes are in range and which record may
 //! stand where is walk.rs's part.
 
+use crate::faults::Fault;
+
 /// One house record, its codes not yet tested.
 #[derive(Copy, Clone, Debug, PartialEq, Eq)]
 pub enum Record {
@@ -66,11 +68,12 @@ fn length_of(kind: u8) -> Option<usize> {
     })
 }
 
-/// The record at the start of these bytes and its length, or nothing if its
-/// kind is unknown or it is cut short.
-pub fn read(bytes: &[u8]) -> Option<(Record, usize)> {
-    let length = length_of(*bytes.first()?)?;
-    let record = bytes.get(..length)?;
+/// The record at the start of these bytes and its length, or that its kind is
+/// unknown or it is cut short.
+pub fn read(bytes: &[u8]) -> Result<(Record, usize), Fault> {
+    let kind = *bytes.first().ok_or(Fault::Cut)?;
+    let length = length_of(kind).ok_or(Fault::Unknown)?;
+    let record = bytes.get(..length).ok_or(Fault::Cut)?;
     let word = |at: usize| {
         u32::from_le_bytes([record[at], record[at + 1], record[at + 2], record[at + 3]])
     };
@@ -109,9 +112,9 @@ pub fn read(bytes: &[u8]) -> Option<(Record, usize)> {
             state: word(1),
             property: half(5),
         },
-        _ => return None,
+        _ => return Err(Fault::Unknown),
     };
-    Some((read, length))
+    Ok((read, length))
 }
 
 impl Record {

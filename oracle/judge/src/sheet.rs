@@ -15,6 +15,7 @@ use understory_style::selector::{
 use understory_style::style::{Style, StyleBuilder};
 use understory_style::stylesheet::StyleOrigin;
 
+use crate::faults::Fault;
 use crate::records::Record;
 
 /// Document 01's sizes, all inclusive.
@@ -27,9 +28,6 @@ pub const SHEET_IDS: usize = 8192;
 pub const SHEET_ENTRIES: usize = 4096;
 pub const SOURCE_INDEX: usize = 65_535;
 pub const ORIGIN: u8 = 7;
-
-/// The number of a refusal in document 01's table.
-pub type Refusal = u32;
 
 /// An entry as given: property, kind, number.
 #[derive(Copy, Clone)]
@@ -109,22 +107,19 @@ pub enum Taken {
     Whole(Box<Sheet>),
 }
 
-/// Refusal 10.
-const RECORD: Refusal = 10;
-
-/// Counts one more, or refusal 2 if that brings the count over its size.
-fn count(held: usize, size: usize) -> Result<usize, Refusal> {
-    if held < size { Ok(held + 1) } else { Err(2) }
+/// Counts one more, or the fault if that brings the count over its size.
+fn count(held: usize, size: usize, over: Fault) -> Result<usize, Fault> {
+    if held < size { Ok(held + 1) } else { Err(over) }
 }
 
 impl SheetMaker {
     /// Starts with the first record of a file, which has to be kind 1.
-    pub fn start(first: Record) -> Result<Self, Refusal> {
+    pub fn start(first: Record) -> Result<Self, Fault> {
         let Record::Sheet { ranking, .. } = first else {
-            return Err(RECORD);
+            return Err(Fault::OtherFirst);
         };
         if ranking > 1 {
-            return Err(6);
+            return Err(Fault::Ranking);
         }
         Ok(Self {
             ranking,
@@ -142,11 +137,11 @@ impl SheetMaker {
 
     /// Takes one more record. Its own faults come first, in the order 10, 6,
     /// 2; then what it closes is pushed, or refused.
-    pub fn take(mut self: Box<Self>, record: Record) -> Result<Taken, Refusal> {
+    pub fn take(mut self: Box<Self>, record: Record) -> Result<Taken, Fault> {
         match record {
             Record::Direct { origin } => {
                 self.test_origin(origin)?;
-                self.directs_given = count(self.directs_given, DIRECT_STYLES)?;
+                self.directs_given = count(self.directs_given, DIRECT_STYLES, Fault::Styles)?;
                 self.close()?;
                 self.open = Open::Direct(origin, Vec::new());
             }
@@ -157,18 +152,20 @@ impl SheetMaker {
             }
             Record::Rule => {
                 let Open::Group(_, rules) = &mut self.open else {
-                    return Err(RECORD);
+                    return Err(Fault::RuleOutsideGroup);
                 };
-                self.rules_given = count(self.rules_given, RULES)?;
+                self.rules_given = count(self.rules_given, RULES, Fault::Rules)?;
                 rules.push(Rule::default());
             }
             Record::Step { combinator } => {
-                let rule = self.last_rule().ok_or(RECORD)?;
-                let first = rule.steps.is_empty();
-                if combinator > 1 || (first && combinator != 0) {
-                    return Err(RECORD);
+                let rule = self.last_rule().ok_or(Fault::StepOutsideRule)?;
+                if combinator > 1 {
+                    return Err(Fault::Combinator);
                 }
-                count(rule.steps.len(), STEPS)?;
+                if rule.steps.is_empty() && combinator != 0 {
+                    return Err(Fault::FirstCombinator);
+                }
+                count(rule.steps.len(), STEPS, Fault::Steps)?;
                 rule.steps.push(Step {
                     descendant: combinator == 1,
                     ..Step::default()
@@ -181,12 +178,12 @@ impl SheetMaker {
                 number,
             } => {
                 let entries_held = self.entries_held;
-                let entries = self.last_entries().ok_or(RECORD)?;
+                let entries = self.last_entries().ok_or(Fault::EntryOutsideStyle)?;
                 if kind > 3 {
-                    return Err(RECORD);
+                    return Err(Fault::EntryKind);
                 }
-                count(entries.len(), STYLE_ENTRIES)?;
-                let entries_held = count(entries_held, SHEET_ENTRIES)?;
+                count(entries.len(), STYLE_ENTRIES, Fault::Entries)?;
+                let entries_held = count(entries_held, SHEET_ENTRIES, Fault::SheetEntries)?;
                 entries.push(Entry {
                     property,
                     kind,
@@ -198,14 +195,19 @@ impl SheetMaker {
                 self.close()?;
                 return Ok(Taken::Whole(Box::new(self.finish())));
             }
-            // Kind 1 again, and 9 to 12 before the end.
-            _ => return Err(RECORD),
+            Record::Sheet { .. } => return Err(Fault::SheetAgain),
+            // Kinds 9 to 12.
+            _ => return Err(Fault::BeforeEnd),
         }
         Ok(Taken::More(self))
     }
 
-    fn test_origin(&self, origin: u8) -> Result<(), Refusal> {
-        if origin > ORIGIN { Err(6) } else { Ok(()) }
+    fn test_origin(&self, origin: u8) -> Result<(), Fault> {
+        if origin > ORIGIN {
+            Err(Fault::Origin)
+        } else {
+            Ok(())
+        }
     }
 
     fn last_rule(&mut self) -> Option<&mut Rule> {
@@ -223,11 +225,11 @@ impl SheetMaker {
         }
     }
 
-    fn require(&mut self, which: u8, id: u32) -> Result<(), Refusal> {
+    fn require(&mut self, which: u8, id: u32) -> Result<(), Fault> {
         let ids_held = self.ids_held;
         let step = self.last_rule().and_then(|rule| rule.steps.last_mut());
-        let step = step.ok_or(RECORD)?;
-        let ids = match which {
+        let step = step.ok_or(Fault::RequirementWithoutStep)?;
+        let (ids, over) = match which {
             0 => {
                 step.type_tag = Some(id);
                 return Ok(());
@@ -236,16 +238,16 @@ impl SheetMaker {
                 step.part_tag = Some(id);
                 return Ok(());
             }
-            2 => &mut step.classes,
-            3 => &mut step.pseudos,
-            _ => return Err(RECORD),
+            2 => (&mut step.classes, Fault::Classes),
+            3 => (&mut step.pseudos, Fault::Pseudos),
+            _ => return Err(Fault::Which),
         };
-        count(ids.len(), STEP_IDS)?;
+        count(ids.len(), STEP_IDS, over)?;
         // The sheet's sum is of ids as held: a repeated one adds nothing.
         let ids_held = if ids.contains(&id) {
             ids_held
         } else {
-            count(ids_held, SHEET_IDS)?
+            count(ids_held, SHEET_IDS, Fault::SheetIds)?
         };
         ids.push(id);
         self.ids_held = ids_held;
@@ -253,7 +255,7 @@ impl SheetMaker {
     }
 
     /// Pushes the style or group that is open, or refuses it: 1, then 7.
-    fn close(&mut self) -> Result<(), Refusal> {
+    fn close(&mut self) -> Result<(), Fault> {
         match take(&mut self.open) {
             Open::Nothing => {}
             Open::Direct(origin, entries) => {
@@ -292,10 +294,10 @@ impl SheetMaker {
         Ok(())
     }
 
-    fn take_source(&mut self) -> Result<usize, Refusal> {
+    fn take_source(&mut self) -> Result<usize, Fault> {
         let source = self.next_source;
         if source > SOURCE_INDEX {
-            return Err(7);
+            return Err(Fault::SourceIndex);
         }
         self.next_source = source + 1;
         Ok(source)
@@ -316,11 +318,11 @@ fn properties_of(entries: &[Entry]) -> Vec<u16> {
 }
 
 /// Refusal 1 if a style's property ids are not strictly ascending.
-fn test_ascending(entries: &[Entry]) -> Result<(), Refusal> {
+fn test_ascending(entries: &[Entry]) -> Result<(), Fault> {
     if entries.is_sorted_by(|left, right| left.property < right.property) {
         Ok(())
     } else {
-        Err(1)
+        Err(Fault::Ascending)
     }
 }
 

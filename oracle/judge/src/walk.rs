@@ -5,8 +5,7 @@
 //! are not in the published code: they are worked out here.
 
 use std::collections::BTreeMap;
-use std::fmt::Write;
-use std::mem::take;
+use std::mem::{replace, take};
 
 use understory_property::PropertyId;
 use understory_style::matcher::{MatchState, StyleSourceRef};
@@ -15,9 +14,10 @@ use understory_style::selector::{
     TypeTag,
 };
 
+use crate::faults::Fault;
 use crate::paths::level3_weight;
 use crate::records::{Record, read};
-use crate::sheet::{Refusal, Sheet, SheetMaker, Taken};
+use crate::sheet::{Sheet, SheetMaker, Taken};
 
 /// What `walk` lends.
 pub const STATES: usize = 512;
@@ -27,64 +27,96 @@ pub const CHANGED: usize = 4096;
 /// Most classes of a subject, and most pseudos, as given.
 pub const SUBJECT_IDS: usize = 16;
 
-/// The output for an input.
+/// What is printed for an input.
 pub fn walk(input: &[u8]) -> String {
-    let mut out = String::new();
-    let mut phase = Phase::First;
-    let mut offset = 0;
-    while offset < input.len() {
-        let Some((record, length)) = read(&input[offset..]) else {
-            refuse(&mut out, 10, offset);
-            return out;
-        };
-        phase = match phase {
-            Phase::Walking(mut walker) => {
-                match walker.take(record) {
-                    Ok(line) => out += &line,
-                    Err(refusal) => {
-                        refuse(&mut out, refusal, offset);
-                        if refusal == 10 {
-                            return out;
-                        }
-                    }
-                }
-                Phase::Walking(walker)
-            }
-            making => match make(making, record) {
-                Ok(next) => next,
-                Err(refusal) => {
-                    refuse(&mut out, refusal, offset);
-                    return out;
-                }
-            },
-        };
-        offset += length;
-    }
-    if !matches!(phase, Phase::Walking(_)) {
-        refuse(&mut out, 10, input.len());
-    }
-    out
+    walked(input).text
 }
 
+/// What is printed for an input, and what was refused in it: the fault, and
+/// the byte it is told at, which is the record's kind. There is no such byte
+/// at the end of the input.
+#[derive(Default)]
+pub struct Walked {
+    pub text: String,
+    pub refused: Vec<(Fault, Option<u8>)>,
+}
+
+pub fn walked(input: &[u8]) -> Walked {
+    let mut walked = Walked::default();
+    let mut reader = Reader::default();
+    let mut offset = 0;
+    while let Some(&kind) = input.get(offset) {
+        let piece = read(&input[offset..]);
+        match piece.and_then(|(record, _)| reader.take(record)) {
+            Ok(line) => walked.text += &line,
+            Err(fault) => {
+                walked.refuse(fault, Some(kind), offset);
+                if fault.number() == 10 || !reader.walks() {
+                    return walked;
+                }
+            }
+        }
+        offset += piece.map_or(0, |(_, length)| length);
+    }
+    if !reader.walks() {
+        walked.refuse(Fault::NoEnd, None, offset);
+    }
+    walked
+}
+
+impl Walked {
+    fn refuse(&mut self, fault: Fault, kind: Option<u8>, offset: usize) {
+        self.text += &format!("refused {} at {offset}\n", fault.number());
+        self.refused.push((fault, kind));
+    }
+}
+
+/// A file read so far, record by record.
+#[derive(Default)]
+pub struct Reader(Phase);
+
+#[derive(Default)]
 enum Phase {
+    #[default]
     First,
     Making(Box<SheetMaker>),
     Walking(Box<Walker>),
+    /// A record of the sheet was refused: nothing is taken any more.
+    Over,
 }
 
-fn make(phase: Phase, record: Record) -> Result<Phase, Refusal> {
-    match phase {
-        Phase::First => SheetMaker::start(record).map(|maker| Phase::Making(Box::new(maker))),
-        Phase::Making(maker) => Ok(match maker.take(record)? {
-            Taken::More(maker) => Phase::Making(maker),
-            Taken::Whole(sheet) => Phase::Walking(Box::new(Walker::new(*sheet))),
-        }),
-        Phase::Walking(_) => unreachable!("a sheet is made once"),
+impl Reader {
+    /// The line for one record, mostly none, or its fault. The sheet's first
+    /// fault is the last thing to be asked.
+    pub fn take(&mut self, record: Record) -> Result<String, Fault> {
+        self.0 = match replace(&mut self.0, Phase::Over) {
+            Phase::First => Phase::Making(Box::new(SheetMaker::start(record)?)),
+            Phase::Making(maker) => match maker.take(record)? {
+                Taken::More(maker) => Phase::Making(maker),
+                Taken::Whole(sheet) => Phase::Walking(Box::new(Walker::new(*sheet))),
+            },
+            Phase::Walking(mut walker) => {
+                let line = walker.take(record);
+                self.0 = Phase::Walking(walker);
+                return line;
+            }
+            Phase::Over => panic!("nothing is taken after a refusal in the sheet"),
+        };
+        Ok(String::new())
     }
-}
 
-fn refuse(out: &mut String, refusal: Refusal, offset: usize) {
-    writeln!(out, "refused {refusal} at {offset}").expect("a string takes every line");
+    /// Whether the sheet is whole: its end was taken.
+    pub fn walks(&self) -> bool {
+        matches!(self.0, Phase::Walking(_))
+    }
+
+    /// How many states there are.
+    pub fn states(&self) -> usize {
+        match &self.0 {
+            Phase::Walking(walker) => walker.states.len(),
+            _ => 0,
+        }
+    }
 }
 
 /// The items since the last enter.
@@ -150,7 +182,7 @@ impl Walker {
     }
 
     /// The line for one record, or its refusal.
-    fn take(&mut self, record: Record) -> Result<String, Refusal> {
+    fn take(&mut self, record: Record) -> Result<String, Fault> {
         let line = match record {
             Record::Item { which, id } => {
                 self.item(which, id)?;
@@ -174,15 +206,16 @@ impl Walker {
                     format!("winner {property}: rule {number} source {source}\n")
                 }
             },
-            // Kinds 1 to 8 after the end.
-            _ => return Err(10),
+            Record::Sheet { .. } => return Err(Fault::SheetAgain),
+            // Kinds 2 to 8.
+            _ => return Err(Fault::AfterEnd),
         };
         Ok(line)
     }
 
     /// An item that would be one too many is refused and dropped.
-    fn item(&mut self, which: u8, id: u32) -> Result<(), Refusal> {
-        let ids = match which {
+    fn item(&mut self, which: u8, id: u32) -> Result<(), Fault> {
+        let (ids, over) = match which {
             0 => {
                 self.items.type_tag = Some(id);
                 return Ok(());
@@ -191,27 +224,27 @@ impl Walker {
                 self.items.part_tag = Some(id);
                 return Ok(());
             }
-            2 => &mut self.items.classes,
-            3 => &mut self.items.pseudos,
-            _ => return Err(10),
+            2 => (&mut self.items.classes, Fault::Classes),
+            3 => (&mut self.items.pseudos, Fault::Pseudos),
+            _ => return Err(Fault::Which),
         };
         if ids.len() == SUBJECT_IDS {
-            return Err(2);
+            return Err(over);
         }
         ids.push(id);
         Ok(())
     }
 
-    /// The published state of a number, or refusal 4. A record gives no
+    /// The published state of a number, or the fault. A record gives no
     /// stamp, so the number alone can be wrong.
-    fn state(&self, number: u32) -> Result<MatchState, Refusal> {
-        self.states.get(number as usize).copied().ok_or(4)
+    fn state(&self, number: u32, wrong: Fault) -> Result<MatchState, Fault> {
+        self.states.get(number as usize).copied().ok_or(wrong)
     }
 
-    fn enter(&mut self, parent: u32) -> Result<usize, Refusal> {
+    fn enter(&mut self, parent: u32) -> Result<usize, Fault> {
         // Gone whether the enter is accepted or refused.
         let items = take(&mut self.items);
-        let parent_state = self.state(parent)?;
+        let parent_state = self.state(parent, Fault::Parent)?;
         let subject = SelectorInputsOwned::with_part(
             items.type_tag.map(TypeTag),
             items.part_tag.map(PartTag),
@@ -226,8 +259,8 @@ impl Walker {
         // refused: whether one is kept needs no answer here.
         let lists = self.advance(parent as usize, &inputs);
         let held = self.lists.iter().position(|held| *held == lists);
-        if held.is_none() && !self.has_room(&lists) {
-            return Err(5);
+        if held.is_none() {
+            self.test_room(&lists)?;
         }
 
         let child = self.sheet.cascade.enter_subject(parent_state, &inputs);
@@ -256,12 +289,18 @@ impl Walker {
         self.rule_numbers[&(source, order as usize)]
     }
 
-    fn has_room(&self, new: &Lists) -> bool {
+    fn test_room(&self, new: &Lists) -> Result<(), Fault> {
         let cursors: usize = self.lists.iter().map(|held| held.cursors.len()).sum();
         let matched: usize = self.lists.iter().map(|held| held.matched.len()).sum();
-        self.lists.len() < STATES
-            && cursors + new.cursors.len() <= CURSORS
-            && matched + new.matched.len() <= MATCHED
+        if self.lists.len() == STATES {
+            Err(Fault::StateRoom)
+        } else if cursors + new.cursors.len() > CURSORS {
+            Err(Fault::CursorRoom)
+        } else if matched + new.matched.len() > MATCHED {
+            Err(Fault::MatchedRoom)
+        } else {
+            Ok(())
+        }
     }
 
     /// 01's "States": what entering a subject makes of a parent and the root.
@@ -292,8 +331,9 @@ impl Walker {
         Lists { cursors, matched }
     }
 
-    fn changed(&self, old: u32, new: u32) -> Result<Vec<u16>, Refusal> {
-        let (old_state, new_state) = (self.state(old)?, self.state(new)?);
+    fn changed(&self, old: u32, new: u32) -> Result<Vec<u16>, Fault> {
+        let old_state = self.state(old, Fault::Old)?;
+        let new_state = self.state(new, Fault::New)?;
         let (before, after) = (self.winners(old), self.winners(new));
         let mut changed: Vec<u16> = before
             .keys()
@@ -316,13 +356,13 @@ impl Walker {
             );
         }
         if changed.len() > CHANGED {
-            return Err(8);
+            return Err(Fault::ChangedRoom);
         }
         Ok(changed)
     }
 
-    fn winner(&self, state: u32, property: u16) -> Result<Option<Winner>, Refusal> {
-        let published_state = self.state(state)?;
+    fn winner(&self, state: u32, property: u16) -> Result<Option<Winner>, Fault> {
+        let published_state = self.state(state, Fault::Asked)?;
         let winners = self.winners(state);
         let winner = winners.get(&property).map(|&(_, winner)| winner);
         if self.sheet.ranking == 0 {
