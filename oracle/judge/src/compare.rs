@@ -2,12 +2,14 @@
 
 use std::io::{IsTerminal, stderr};
 use std::slice;
+use std::sync::atomic::{AtomicUsize, Ordering};
+use std::thread;
 use std::time::{Duration, Instant};
 
 use crate::batches::{Batch, Form};
 use crate::records::{pieces, read};
 use crate::run::{Output, run};
-use crate::shrink::{drop_some, lower};
+use crate::shrink::{drop_some, lower, shrink_file};
 use crate::walk::walk;
 
 /// How often the command is run to make a difference small, and for how long.
@@ -275,28 +277,74 @@ fn hex(bytes: &[u8]) -> String {
     bytes.iter().map(|byte| format!(" {byte:02x}")).collect()
 }
 
+/// A file that differs, and all there is to tell of it.
+pub struct Different {
+    pub told: String,
+    pub file: Vec<u8>,
+}
+
+/// How many files are handed out before differences are looked for.
+const FILES_AT_ONCE: usize = 128;
+
 /// Compares a command's output for each house-record file with the judge's.
+/// Each file is a run of its own, for that is how `walk` reads; as many run at
+/// once as there are cores.
 pub fn compare_files(
     command: &str,
     seed: u64,
     count: usize,
     files: impl Iterator<Item = Vec<u8>>,
-) -> Result<Difference, String> {
+) -> Result<Option<Different>, String> {
     let progress = Progress::new("files");
-    for (number, file) in files.enumerate() {
-        if let Some(line) = file_difference(command, &file)? {
-            progress.shrinking();
-            return tell_file(command, seed, number, file, line).map(Some);
+    let mut files = files.peekable();
+    let mut done = 0;
+    while files.peek().is_some() {
+        let some: Vec<Vec<u8>> = files.by_ref().take(FILES_AT_ONCE).collect();
+        for (place, line) in differences(command, &some)?.into_iter().enumerate() {
+            if let Some(line) = line {
+                progress.shrinking();
+                let file = some[place].clone();
+                return tell_file(command, seed, done + place, file, line).map(Some);
+            }
         }
-        progress.say(number + 1, count);
+        done += some.len();
+        progress.say(done, count);
     }
     Ok(None)
+}
+
+/// The difference in each of some files, if there is one.
+fn differences(command: &str, files: &[Vec<u8>]) -> Result<Vec<Option<Line>>, String> {
+    let cores = thread::available_parallelism().map_or(1, usize::from);
+    let next = AtomicUsize::new(0);
+    let some = || {
+        let mut found = Vec::new();
+        while let place = next.fetch_add(1, Ordering::Relaxed)
+            && let Some(file) = files.get(place)
+        {
+            found.push((place, file_difference(command, file)));
+        }
+        found
+    };
+    let mut all = thread::scope(|scope| {
+        let threads: Vec<_> = (0..cores).map(|_| scope.spawn(some)).collect();
+        let found = threads.into_iter().flat_map(|thread| {
+            let found = thread.join();
+            found.expect("a comparison goes to its end")
+        });
+        found.collect::<Vec<_>>()
+    });
+    all.sort_by_key(|&(place, _)| place);
+    all.into_iter().map(|(_, difference)| difference).collect()
 }
 
 fn file_difference(command: &str, file: &[u8]) -> Result<Option<Line>, String> {
     let output = run(command, file)?;
     Ok(first_difference(walk(file).as_bytes(), &output))
 }
+
+/// Why a search for something smaller ends early.
+const CUT_OFF: &str = "the search is cut off";
 
 /// Makes a file that differs small, and tells of it.
 fn tell_file(
@@ -305,28 +353,56 @@ fn tell_file(
     number: usize,
     file: Vec<u8>,
     line: Line,
-) -> Result<String, String> {
+) -> Result<Different, String> {
     let mut search = Search::new();
-    let mut differs = |file: &[u8]| -> Result<bool, String> {
-        Ok(search.may_go_on() && file_difference(command, file)?.is_some())
+    let mut best = file.clone();
+    // A large file takes long to go through even if nothing is run any more.
+    let shrunk = shrink_file(file, &mut |tried| {
+        if !search.may_go_on() {
+            return Err(CUT_OFF.to_string());
+        }
+        let differs = file_difference(command, tried)?.is_some();
+        if differs {
+            best = tried.clone();
+        }
+        Ok(differs)
+    });
+    let small = match shrunk {
+        Ok(small) => small,
+        Err(trouble) if trouble == CUT_OFF => best,
+        Err(trouble) => return Err(trouble),
     };
-    let small = drop_some(pieces(&file), &mut |pieces| differs(&pieces.concat()))?.concat();
-    let small = drop_some(small, &mut |bytes| differs(bytes))?;
-    let small = lower(small, &mut |bytes| differs(bytes))?;
 
     let line = file_difference(command, &small)?.unwrap_or(line);
     let how = search.told();
     let mut told = format!("a difference in files, seed {seed}, file {number}; {how}:\n");
-    told += &format!("bytes:{}\n", hex(&small));
-    let mut offset = 0;
-    for piece in pieces(&small) {
-        match read(piece) {
-            Ok((record, _)) => told += &format!("at {offset}: {record:?}\n"),
-            Err(_) => told += &format!("at {offset}: no record\n"),
-        }
-        offset += piece.len();
-    }
+    told += &told_file(&small);
     told += &format!("in line {} of the output\n", line.number);
-    told += &format!("expected: {}\nactual:   {}\n", line.expected, line.actual);
-    Ok(told)
+    let (expected, actual) = (line.expected, line.actual);
+    told += &format!("expected: {expected:.400}\nactual:   {actual:.400}\n");
+    Ok(Different { told, file: small })
+}
+
+/// A file's bytes are shown up to so many.
+const BYTES_TOLD: usize = 2000;
+
+/// The bytes and the records of a file; a record that is repeated is told once.
+fn told_file(file: &[u8]) -> String {
+    let mut told = match file.len() {
+        0..=BYTES_TOLD => format!("bytes:{}\n", hex(file)),
+        length => format!("{length} bytes\n"),
+    };
+    let mut offset = 0;
+    for alike in pieces(file).chunk_by(|left, right| left == right) {
+        told += &match read(alike[0]) {
+            Ok((record, _)) => format!("at {offset}: {record:?}"),
+            Err(_) => format!("at {offset}: no record"),
+        };
+        if alike.len() > 1 {
+            told += &format!(", {} times", alike.len());
+        }
+        told += "\n";
+        offset += alike.concat().len();
+    }
+    told
 }

@@ -28,6 +28,7 @@ mod walk;
 mod walks;
 mod words;
 
+use std::collections::BTreeSet;
 use std::fs;
 use std::io::{self, Read, Write};
 use std::path::Path;
@@ -60,25 +61,35 @@ judge: answers test cases from the published code
       writes N cases to standard output, one after another
   judge make files --seed N --count N --into DIR
       writes N files of house records into DIR
+  judge make files --length-prefixed --seed N --count N
+      writes them to standard output one after another, each after its length
+      in 4 bytes, little-endian
   judge compare lists|paths|builds|walks|cascades --run COMMAND --seed N
               --count N
       gives N cases, in batches of at most 256 KiB (lists), 1 MiB (paths) or
       4 MiB (the others), to a shell command on its standard input and
       compares its output with the judge's; some batches end inside a case or
       in a wrong one
-  judge compare files --run COMMAND --seed N --count N
-      gives N files of house records to a shell command, one a run, and
-      compares its output with the judge's byte for byte
+  judge compare files --run COMMAND --seed N --count N [--keep FILE]
+      gives N files of house records to a shell command on its standard
+      input, one a run and as many runs at once as there are cores, and
+      compares its output with the judge's byte for byte; a file that differs
+      is kept in FILE, made small
   judge store lists|paths|builds|walks|cascades --seed N --count N
               --cases FILE --answers FILE
       writes N cases and the judge's answers to them; of builds, walks and
       cascades only small ones
+  judge store files --seed N --count N --into FILE
+      writes N small files of house records and what is printed for each, one
+      after another: length, file, length, output, lengths in 4 bytes,
+      little-endian; document 01's example is the first, and each fault that a
+      small file can have is among them
   judge --help
       this text
 
 A seed always gives the same cases. With a count of at least twice as many as
 there are fixed cases (edges, and all small ones) every one of those is among
-them; 20,000 is enough for any, 5,000 for walks and cascades. What is made or
+them; 20,000 is enough for any, 5,000 for walks and cascades, 3,000 for files. What is made or
 stored are whole cases only.
 
 Status: 0 all equal or done; 1 a difference, told on standard output, made as
@@ -236,11 +247,66 @@ impl Made {
 }
 
 fn files(seed: u64, count: usize) -> impl Iterator<Item = Vec<u8>> {
-    use generate::{files, stream};
-    stream(files::fixed(), files::random_file, seed, count)
+    use generate::{file_edges, files, stream};
+    stream(file_edges::fixed(), files::random_file, seed, count)
+}
+
+/// Bytes after their length.
+fn prefixed(bytes: &[u8]) -> Vec<u8> {
+    let length = u32::try_from(bytes.len()).expect("a file's length fits a word");
+    [&length.to_le_bytes(), bytes].concat()
+}
+
+/// Most bytes of a file that is stored, and of what is printed for it; and of
+/// one that is stored for a fault in it.
+const MOST_OF_FILE: usize = 300;
+const MOST_FOR_FAULT: usize = 1200;
+
+/// Files that are stored: 01's example, one for each fault that a small file
+/// can have, and any small ones.
+fn small_files(seed: u64, count: usize) -> Vec<Vec<u8>> {
+    use generate::{file_edges, files};
+    let fixed = file_edges::fixed();
+    let mut stored = vec![fixed[0].clone()];
+    let mut seen = BTreeSet::new();
+    for file in fixed.iter().filter(|file| file.len() <= MOST_FOR_FAULT) {
+        // Only the number of times that a fault comes does not matter.
+        let faults = walk::walked(file).refused;
+        if faults
+            .into_iter()
+            .filter(|&fault| seen.insert(fault))
+            .count()
+            > 0
+        {
+            stored.push(file.clone());
+        }
+    }
+    let fits =
+        |file: &Vec<u8>| file.len() <= MOST_OF_FILE && walk::walk(file).len() <= MOST_OF_FILE;
+    let more = count.saturating_sub(stored.len());
+    stored.extend(small(fixed, files::random_file, fits, seed, more));
+    stored.truncate(count);
+    stored
+}
+
+fn store_files(words: &[&str]) -> Result<(), String> {
+    let options = Options::read(words, &["--seed", "--count", "--into"])?;
+    let mut bytes = Vec::new();
+    for file in small_files(options.seed()?, options.count()?) {
+        bytes.extend(prefixed(&file));
+        bytes.extend(prefixed(walk::walk(&file).as_bytes()));
+    }
+    write_file(Path::new(options.text("--into")?), &bytes)
 }
 
 fn make(what: What, words: &[&str]) -> Result<(), String> {
+    if let (What::Files, Some((&"--length-prefixed", words))) = (what, words.split_first()) {
+        let options = Options::read(words, &["--seed", "--count"])?;
+        for file in files(options.seed()?, options.count()?) {
+            write(&prefixed(&file))?;
+        }
+        return Ok(());
+    }
     if what == What::Files {
         let options = Options::read(words, &["--seed", "--count", "--into"])?;
         let (seed, count) = (options.seed()?, options.count()?);
@@ -257,6 +323,9 @@ fn make(what: What, words: &[&str]) -> Result<(), String> {
 }
 
 fn store(what: What, words: &[&str]) -> Result<(), String> {
+    if what == What::Files {
+        return store_files(words);
+    }
     let options = Options::read(words, &["--seed", "--count", "--cases", "--answers"])?;
     let (seed, count) = (options.seed()?, options.count()?);
     let made = match what {
@@ -271,6 +340,9 @@ fn store(what: What, words: &[&str]) -> Result<(), String> {
 }
 
 fn compare(what: What, words: &[&str]) -> Result<ExitCode, String> {
+    if what == What::Files {
+        return compare_all_files(words);
+    }
     let options = Options::read(words, &["--run", "--seed", "--count"])?;
     let command = options.text("--run")?;
     let (seed, count) = (options.seed()?, options.count()?);
@@ -296,14 +368,32 @@ fn compare(what: What, words: &[&str]) -> Result<ExitCode, String> {
             let batches = walk_batches(cascades(seed, count), seed);
             compare_cases(name, command, seed, count, batches)?
         }
-        What::Files => compare_files(command, seed, count, files(seed, count))?,
+        What::Files => None,
     };
-    let told = match what {
-        What::Files => format!("compared {count} files: no difference\n"),
-        _ => format!("compared {count} cases of {name}: no difference\n"),
-    };
+    told(
+        difference,
+        &format!("compared {count} cases of {name}: no difference\n"),
+    )
+}
+
+fn compare_all_files(words: &[&str]) -> Result<ExitCode, String> {
+    let options = Options::read_or(words, &["--run", "--seed", "--count"], &["--keep"])?;
+    let (seed, count) = (options.seed()?, options.count()?);
+    let found = compare_files(options.text("--run")?, seed, count, files(seed, count))?;
+    if let (Some(different), Ok(path)) = (&found, options.text("--keep")) {
+        write_file(Path::new(path), &different.file)?;
+    }
+    let difference = found.map(|different| different.told);
+    told(
+        difference,
+        &format!("compared {count} files: no difference\n"),
+    )
+}
+
+/// Tells of a difference, or that there is none.
+fn told(difference: Option<String>, none: &str) -> Result<ExitCode, String> {
     match difference {
-        None => write(told.as_bytes()).map(|()| ExitCode::SUCCESS),
+        None => write(none.as_bytes()).map(|()| ExitCode::SUCCESS),
         Some(difference) => write(difference.as_bytes()).map(|()| ExitCode::from(1)),
     }
 }

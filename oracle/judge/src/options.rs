@@ -42,10 +42,15 @@ pub struct Options<'a>(BTreeMap<&'a str, &'a str>);
 impl<'a> Options<'a> {
     /// Each of the names has to be there once, and no other.
     pub fn read(words: &[&'a str], names: &[&str]) -> Result<Self, String> {
+        Self::read_or(words, names, &[])
+    }
+
+    /// The same, with some more that may be there once.
+    pub fn read_or(words: &[&'a str], names: &[&str], also: &[&str]) -> Result<Self, String> {
         let mut options = BTreeMap::new();
         for pair in words.chunks(2) {
             let name = pair[0];
-            if !names.contains(&name) {
+            if !names.contains(&name) && !also.contains(&name) {
                 return Err(format!(
                     "`{name}` is not an option here; see `judge --help`"
                 ));

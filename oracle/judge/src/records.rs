@@ -49,23 +49,23 @@ pub enum Record {
     },
 }
 
-/// The length of a record in bytes by its kind, or nothing for a kind that
-/// is not known.
-fn length_of(kind: u8) -> Option<usize> {
+/// The widths in bytes of a record's numbers by its kind, or nothing for a
+/// kind that is not known.
+fn widths_of(kind: u8) -> Option<&'static [usize]> {
     Some(match kind {
-        1 => 6,
-        2 | 3 => 2,
-        4 => 1,
-        5 => 2,
-        6 => 6,
-        7 => 8,
-        8 => 1,
-        9 => 6,
-        10 => 5,
-        11 => 9,
-        12 => 7,
+        1 | 6 | 9 => &[1, 4],
+        2 | 3 | 5 => &[1],
+        4 | 8 => &[],
+        7 => &[2, 1, 4],
+        10 => &[4],
+        11 => &[4, 4],
+        12 => &[4, 2],
         _ => return None,
     })
+}
+
+fn length_of(kind: u8) -> Option<usize> {
+    widths_of(kind).map(|widths| 1 + widths.iter().sum::<usize>())
 }
 
 /// The record at the start of these bytes and its length, or that its kind is
@@ -187,4 +187,30 @@ pub fn pieces(file: &[u8]) -> Vec<&[u8]> {
         rest = after;
     }
     pieces
+}
+
+/// The numbers of a record that is whole; of anything else none.
+pub fn numbers_of(piece: &[u8]) -> Vec<u32> {
+    let Some((&kind, mut body)) = piece.split_first() else {
+        return Vec::new();
+    };
+    let mut numbers = Vec::new();
+    for &width in widths_of(kind).unwrap_or(&[]) {
+        let Some((number, rest)) = body.split_at_checked(width) else {
+            return Vec::new();
+        };
+        let bytes = number.iter().rev();
+        numbers.push(bytes.fold(0, |high, &byte| high << 8 | u32::from(byte)));
+        body = rest;
+    }
+    numbers
+}
+
+/// A record of the same kind with other numbers, as many as it has.
+pub fn with_numbers(piece: &[u8], numbers: &[u32]) -> Vec<u8> {
+    let mut record = vec![piece[0]];
+    for (&width, number) in widths_of(piece[0]).unwrap_or(&[]).iter().zip(numbers) {
+        record.extend(&number.to_le_bytes()[..width]);
+    }
+    record
 }

@@ -7,6 +7,7 @@ use crate::builds::model::Model;
 use crate::builds::{BuildCase, GROUP, Item, MOST_ROOM, STYLE};
 use crate::generate::walks::sheet;
 use crate::paths::{PathCase, ROW_HEAD, STEP_IDS, STEP_ROW, SUBJECT_IDS};
+use crate::records::{numbers_of, pieces, with_numbers};
 use crate::walks::{Machine, ROOMS, SHEET, WalkCase};
 use crate::words::{Case, split};
 
@@ -434,4 +435,71 @@ fn shrink_rules(
         return Ok(case);
     }
     Ok(with(&kept))
+}
+
+/// A file's bytes are tried one by one only if there are not many.
+const FEW_BYTES: usize = 300;
+
+/// The smallest file found: whole sources, rules and enters first, then single
+/// records, then the numbers in them, then bytes.
+pub fn shrink_file(file: Vec<u8>, still: Still<'_, Vec<u8>>) -> Result<Vec<u8>, String> {
+    let mut file = file;
+    loop {
+        let before = file.clone();
+        for cut in [before_source, before_rule, after_line] {
+            let blocks = drop_some(blocks(&file, cut), &mut |kept| still(&kept.concat()))?;
+            file = blocks.concat();
+        }
+        let mut records: Vec<Vec<u8>> = pieces(&file).iter().map(|piece| piece.to_vec()).collect();
+        records = drop_some(records, &mut |kept| still(&kept.concat()))?;
+        for place in 0..records.len() {
+            let others = records.clone();
+            let with = |numbers: &Vec<u32>| {
+                let mut tried = others.clone();
+                tried[place] = with_numbers(&others[place], numbers);
+                tried
+            };
+            let numbers = numbers_of(&records[place]);
+            if !numbers.is_empty() {
+                let numbers = lower(numbers, &mut |numbers| still(&with(numbers).concat()))?;
+                records = with(&numbers);
+            }
+        }
+        file = records.concat();
+        if file.len() <= FEW_BYTES {
+            file = drop_some(file, still)?;
+            file = lower(file, still)?;
+        }
+        if file == before {
+            return Ok(file);
+        }
+    }
+}
+
+/// The records of a file in blocks that begin where `cut` says so of the kinds
+/// of two neighbours.
+fn blocks(file: &[u8], cut: fn(u8, u8) -> bool) -> Vec<Vec<u8>> {
+    let mut blocks: Vec<Vec<u8>> = Vec::new();
+    let mut before = None;
+    for piece in pieces(file) {
+        match (blocks.last_mut(), before) {
+            (Some(block), Some(before)) if !cut(before, piece[0]) => block.extend(piece),
+            _ => blocks.push(piece.to_vec()),
+        }
+        before = Some(piece[0]);
+    }
+    blocks
+}
+
+fn before_source(before: u8, kind: u8) -> bool {
+    matches!(kind, 2 | 3 | 8) || before == 8
+}
+
+fn before_rule(before: u8, kind: u8) -> bool {
+    before_source(before, kind) || kind == 4
+}
+
+/// After each record that has a line: items stay with their enter.
+fn after_line(before: u8, _: u8) -> bool {
+    matches!(before, 8 | 10 | 11 | 12)
 }

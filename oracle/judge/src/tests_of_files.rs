@@ -1,10 +1,14 @@
 //! House-record files: document 01's sentences about them one by one, and
 //! what the files of a run meet.
 
-use crate::generate::files::worked_example;
+use std::collections::{BTreeMap, BTreeSet};
+
+use crate::faults::Fault;
+use crate::generate::files::{random_file, worked_example};
+use crate::generate::{file_edges, stream};
 use crate::records::Record::{self, *};
-use crate::records::file_of;
-use crate::walk::walk;
+use crate::records::{file_of, pieces, read};
+use crate::walk::{walk, walked};
 
 const TYPE: u8 = 0;
 const PART: u8 = 1;
@@ -439,4 +443,239 @@ fn numbers_of_states() {
         let records = [&whole[..], &wrong, &[ASKED]].concat();
         prints(&records, &lines(&wrong));
     }
+}
+
+/// 5: 512 states, 4,096 cursors, 4,096 matched numbers; the items are dropped,
+/// a held state needs no room.
+#[test]
+fn rooms() {
+    // Nine classes, one rule each: 512 lists beside the root's.
+    let mut records = vec![SHEET, GROUP];
+    for id in 0..9 {
+        records.extend([Rule, CHILD, needs(CLASS, id)]);
+    }
+    records.push(End);
+    let classes = |bits: u32| {
+        let set = (0..9).filter(move |id| bits >> id & 1 == 1);
+        set.map(|id| has(CLASS, id)).chain([ENTER])
+    };
+    records.extend((0..512).flat_map(classes));
+    let last = at(&records) - at(&[ENTER]);
+    records.extend([ENTER, has(CLASS, 0), ENTER]);
+    let text = walk(&file_of(&records));
+    let lines: Vec<&str> = text.lines().skip(510).collect();
+    let refused = format!("refused 5 at {last}");
+    let full = "state 511 matched 8: 1 2 3 4 5 6 7 8";
+    assert_eq!(
+        lines,
+        [full, &refused, "state 1 matched 0:", "state 2 matched 1: 0"]
+    );
+    // 256 rules that all match, or all go on: sixteen lists fill the room. A
+    // type is in the next step, and the root's own cursors take one part.
+    for (steps, most) in [(1, 16), (2, 15)] {
+        let mut records = vec![SHEET, GROUP];
+        for rule in 0..256 {
+            records.extend([Rule, CHILD]);
+            // One rule less for each class, so that each list differs.
+            records.extend((rule < 20).then(|| needs(PSEUDO, rule)));
+            if steps == 2 {
+                records.extend([CHILD, needs(TYPE, 9)]);
+            }
+        }
+        records.push(End);
+        let list = 256 - 20;
+        let mut held = if steps == 2 { 256 } else { 0 };
+        let mut entered = 0;
+        let mut lines = String::new();
+        for pseudo in 0..20 {
+            records.push(has(PSEUDO, pseudo));
+            let offset = at(&records);
+            records.push(ENTER);
+            if held + list + 1 > 4096 {
+                lines += &format!("refused 5 at {offset}\n");
+                continue;
+            }
+            held += list + 1;
+            entered += 1;
+            let rules = [pseudo].into_iter().chain(20..256);
+            let rules: String = rules.map(|rule| format!(" {rule}")).collect();
+            lines += &match steps {
+                1 => format!("state {entered} matched {}:{rules}\n", list + 1),
+                _ => format!("state {entered} matched 0:\n"),
+            };
+        }
+        assert!(entered == most + 1 && lines.contains("refused 5"));
+        prints(&records, &lines);
+    }
+}
+
+/// How many files a run has at least.
+const RUN: usize = 3000;
+
+fn run(seed: u64) -> impl Iterator<Item = Vec<u8>> {
+    stream(file_edges::fixed(), random_file, seed, RUN)
+}
+
+/// Each fault with each kind of record that can have it.
+fn all_faults() -> BTreeSet<(Fault, Option<u8>)> {
+    use Fault::*;
+    let with: &[(Fault, &[u8])] = &[
+        (Cut, &[1, 2, 3, 5, 6, 7, 9, 10, 11, 12]),
+        (OtherFirst, &[2, 3, 4, 5, 6, 7, 8, 9, 10, 11, 12]),
+        (SheetAgain, &[1]),
+        (RuleOutsideGroup, &[4]),
+        (StepOutsideRule, &[5]),
+        (RequirementWithoutStep, &[6]),
+        (EntryOutsideStyle, &[7]),
+        (AfterEnd, &[2, 3, 4, 5, 6, 7, 8]),
+        (BeforeEnd, &[9, 10, 11, 12]),
+        (FirstCombinator, &[5]),
+        (Combinator, &[5]),
+        (Which, &[6, 9]),
+        (EntryKind, &[7]),
+        (Ranking, &[1]),
+        (Origin, &[2, 3]),
+        (Styles, &[2]),
+        (Rules, &[4]),
+        (Steps, &[5]),
+        (Classes, &[6, 9]),
+        (Pseudos, &[6, 9]),
+        (Entries, &[7]),
+        (SheetIds, &[6]),
+        (SheetEntries, &[7]),
+        (Ascending, &[2, 3, 8]),
+        (SourceIndex, &[2, 3, 8]),
+        (Parent, &[10]),
+        (Old, &[11]),
+        (New, &[11]),
+        (Asked, &[12]),
+        (StateRoom, &[10]),
+        (CursorRoom, &[10]),
+        (MatchedRoom, &[10]),
+    ];
+    let pairs = with
+        .iter()
+        .flat_map(|&(fault, kinds)| kinds.iter().map(move |&kind| (fault, Some(kind))));
+    pairs.chain([(Unknown, None), (NoEnd, None)]).collect()
+}
+
+/// Every fault of the list occurs in a run, with every kind of record that
+/// can have it, and no other does; each but the last index also where chance
+/// puts it. And a run has files of all sorts that are not refused.
+#[test]
+fn a_run_has_every_fault_and_files_of_all_sorts() {
+    let fixed = file_edges::fixed().len();
+    assert!(fixed <= RUN / 2, "{fixed}");
+    let mut counted = BTreeMap::new();
+    let mut by_chance = BTreeSet::new();
+    let mut sorts = BTreeMap::new();
+    let mut unrefused = 0;
+    for (number, file) in run(1).enumerate() {
+        let walked = walked(&file);
+        for &(fault, kind) in &walked.refused {
+            let known = kind.filter(|_| fault != Fault::Unknown);
+            *counted.entry((fault, known)).or_insert(0) += 1;
+            if number >= fixed {
+                by_chance.insert(fault);
+            }
+        }
+        if walked.whole {
+            unrefused += usize::from(walked.refused.is_empty());
+            for sort in sorts_of(&file, &walked.text) {
+                *sorts.entry(sort).or_insert(0) += 1;
+            }
+        }
+    }
+    println!("{fixed} fixed files, {unrefused} of all without a refusal");
+    for ((fault, kind), count) in &counted {
+        println!("{} {fault:?} {kind:?}: {count}", fault.number());
+    }
+    println!("{sorts:#?}");
+
+    let found: BTreeSet<_> = counted.into_keys().collect();
+    let all = all_faults();
+    let absent: Vec<_> = all.difference(&found).collect();
+    assert!(absent.is_empty(), "no {absent:?}");
+    let unknown: Vec<_> = found.difference(&all).collect();
+    assert!(unknown.is_empty(), "not listed: {unknown:?}");
+    let every: BTreeSet<Fault> = all.iter().map(|&(fault, _)| fault).collect();
+    let never: Vec<_> = every.difference(&by_chance).collect();
+    assert_eq!(never, [&Fault::SourceIndex]);
+
+    for sort in all_sorts() {
+        assert!(sorts.get(&sort).is_some_and(|&count| count >= 3), "{sort}");
+    }
+    assert!(unrefused > RUN / 4, "{unrefused}");
+}
+
+/// What there is in a file whose sheet is whole.
+fn sorts_of(file: &[u8], text: &str) -> BTreeSet<String> {
+    let mut seen = BTreeSet::new();
+    let mut before = None;
+    for piece in pieces(file) {
+        let Ok((record, _)) = read(piece) else { break };
+        match (before, record) {
+            (_, Sheet { ranking, .. }) => seen.insert(format!("ranking {ranking}")),
+            (_, Direct { origin }) => seen.insert(format!("direct of origin {origin}")),
+            (Some(Group { .. }), Group { .. } | End) => seen.insert("empty group".into()),
+            (_, Group { origin }) => seen.insert(format!("group of origin {origin}")),
+            (Some(Rule), Rule | End) => seen.insert("empty rule".into()),
+            (_, Step { combinator }) => seen.insert(format!("combinator {combinator}")),
+            (_, Requirement { which, .. }) => seen.insert(format!("requirement {which}")),
+            (_, Entry { kind, .. }) => seen.insert(format!("entry of kind {kind}")),
+            (_, Item { which, .. }) => seen.insert(format!("item {which}")),
+            _ => false,
+        };
+        before = Some(record);
+    }
+    let mut enters = 0;
+    for line in text.lines() {
+        let words: Vec<&str> = line.split([' ', ':']).collect();
+        let length = |word: &str| word.parse::<usize>().expect("a length");
+        let seen = &mut seen;
+        match words[..] {
+            ["state", _, "matched", rules, ..] => {
+                enters += 1;
+                length(rules) == 256 && seen.insert("256 rules listed".into())
+            }
+            ["changed", count, ..] if length(count) == 4096 => seen.insert("4,096 changed".into()),
+            ["changed", count, ..] => length(count) > 300 && seen.insert("hundreds changed".into()),
+            ["winner", _, "", who, ..] => seen.insert(format!("winner {who}")),
+            _ => false,
+        };
+    }
+    if enters > 200 {
+        seen.insert("over 200 enters".into());
+    }
+    seen
+}
+
+fn all_sorts() -> Vec<String> {
+    let mut wanted: Vec<String> = [
+        "empty group",
+        "empty rule",
+        "256 rules listed",
+        "4,096 changed",
+        "hundreds changed",
+        "winner direct",
+        "winner rule",
+        "winner none",
+        "over 200 enters",
+    ]
+    .map(String::from)
+    .into();
+    for number in 0..8 {
+        wanted.push(format!("direct of origin {number}"));
+        wanted.push(format!("group of origin {number}"));
+        if number < 4 {
+            wanted.push(format!("requirement {number}"));
+            wanted.push(format!("item {number}"));
+            wanted.push(format!("entry of kind {number}"));
+        }
+        if number < 2 {
+            wanted.push(format!("ranking {number}"));
+            wanted.push(format!("combinator {number}"));
+        }
+    }
+    wanted
 }

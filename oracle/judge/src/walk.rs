@@ -39,6 +39,8 @@ pub fn walk(input: &[u8]) -> String {
 pub struct Walked {
     pub text: String,
     pub refused: Vec<(Fault, Option<u8>)>,
+    /// Whether the sheet came to its end.
+    pub whole: bool,
 }
 
 pub fn walked(input: &[u8]) -> Walked {
@@ -48,17 +50,20 @@ pub fn walked(input: &[u8]) -> Walked {
     while let Some(&kind) = input.get(offset) {
         let piece = read(&input[offset..]);
         match piece.and_then(|(record, _)| reader.take(record)) {
-            Ok(line) => walked.text += &line,
+            Ok(line) => {
+                walked.text += &line;
+                walked.whole = reader.walks();
+            }
             Err(fault) => {
                 walked.refuse(fault, Some(kind), offset);
-                if fault.number() == 10 || !reader.walks() {
+                if fault.number() == 10 || !walked.whole {
                     return walked;
                 }
             }
         }
         offset += piece.map_or(0, |(_, length)| length);
     }
-    if !reader.walks() {
+    if !walked.whole {
         walked.refuse(Fault::NoEnd, None, offset);
     }
     walked

@@ -162,6 +162,64 @@ fn planted_difference_in_files_is_made_small() {
     assert_eq!(status, Some(1));
     let smallest = "bytes: 01 00 00 00 00 00 08 0a 00 00 00 00\n";
     assert!(told.contains(smallest), "{told}");
+    // A rule that wins: its group, one step, one entry, one enter.
+    let run = "JUDGE walk | sed 's/: rule 1 source/: rule 2 source/'";
+    let (status, told) = compare("files", run, "3000");
+    assert_eq!(status, Some(1));
+    let (_, records) = told.split_once("at 0: ").expect("the records");
+    assert!(records.lines().count() <= 13, "{told}");
+    assert!(
+        told.contains("expected: winner 1: rule 1 source 0\n"),
+        "{told}"
+    );
+    // Far down in a run, and nothing can be left out.
+    let run = "JUDGE walk | sed 's/^refused 2 at 5/refused 2 at 6/'";
+    let (status, told) = compare("files", run, "3000");
+    assert_eq!(status, Some(1));
+    assert!(told.contains("refused 2 at 6"), "{told}");
+    // The file is kept as it is told.
+    let kept = std::env::temp_dir().join(format!("judge-{}.house", std::process::id()));
+    let path = kept.to_str().expect("a path of letters");
+    let output = judge(&[
+        "compare", "files", "--run", "cat", "--seed", "3", "--count", "9", "--keep", path,
+    ]);
+    let told = String::from_utf8(output.stdout).expect("the judge writes text");
+    let bytes = std::fs::read(&kept).expect("the file is there");
+    std::fs::remove_file(&kept).expect("it can go");
+    assert_eq!(output.status.code(), Some(1));
+    let hex: String = bytes.iter().map(|byte| format!(" {byte:02x}")).collect();
+    assert!(told.contains(&format!("bytes:{hex}\n")), "{told}");
+}
+
+/// Stored files can be read back: length, file, length, output.
+#[test]
+fn stored_files_replay() {
+    let path = std::env::temp_dir().join(format!("judge-{}.stored", std::process::id()));
+    let name = path.to_str().expect("a path of letters");
+    let output = judge(&[
+        "store", "files", "--seed", "1", "--count", "90", "--into", name,
+    ]);
+    assert_eq!(output.status.code(), Some(0));
+    let stored = std::fs::read(&path).expect("the file is there");
+    std::fs::remove_file(&path).expect("it can go");
+    let mut rest = &stored[..];
+    let mut parts = Vec::new();
+    while let Some((length, after)) = rest.split_first_chunk::<4>() {
+        let (part, after) = after.split_at(u32::from_le_bytes(*length) as usize);
+        parts.push(part);
+        rest = after;
+    }
+    assert!(rest.is_empty());
+    assert_eq!(parts.len(), 180);
+    assert!(
+        parts[1].starts_with(b"state 1 matched 0:\nstate 1 matched 0:\nstate 2 matched 2: 0 1\n")
+    );
+    let faults = parts.iter().skip(1).step_by(2);
+    for number in [1, 2, 4, 6, 10] {
+        let line = format!("refused {number} at ");
+        let has = |text: &&&[u8]| String::from_utf8_lossy(text).contains(&line);
+        assert!(faults.clone().any(|text| has(&text)), "{number}");
+    }
 }
 
 #[test]
@@ -179,16 +237,7 @@ fn wrong_usage_and_missing_commands_give_2() {
         &["make", "lists"],
         &["make", "lists", "--seed", "x", "--count", "1"],
         &[
-            "store",
-            "files",
-            "--seed",
-            "1",
-            "--count",
-            "1",
-            "--cases",
-            "c",
-            "--answers",
-            "a",
+            "store", "files", "--seed", "1", "--count", "1", "--cases", "c",
         ],
         &[
             "make", "lists", "--seed", "1", "--count", "1", "--into", "d",

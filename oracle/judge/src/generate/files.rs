@@ -6,19 +6,18 @@ use super::random::Random;
 use crate::records::Record::{self, *};
 use crate::records::file_of;
 use crate::sheet::{
-    DIRECT_STYLES, ORIGIN, RULES, SHEET_ENTRIES, SHEET_IDS, SOURCE_INDEX, STEP_IDS, STEPS,
-    STYLE_ENTRIES,
+    DIRECT_STYLES, ORIGIN, RULES, SHEET_ENTRIES, SHEET_IDS, STEP_IDS, STEPS, STYLE_ENTRIES,
 };
-use crate::walk::{CURSORS, MATCHED, STATES, SUBJECT_IDS};
+use crate::walk::{Reader, SUBJECT_IDS};
 
-const TYPE: u8 = 0;
-const PART: u8 = 1;
-const CLASS: u8 = 2;
-const PSEUDO: u8 = 3;
-const CHILD: u8 = 0;
-const DESCENDANT: u8 = 1;
+pub const TYPE: u8 = 0;
+pub const PART: u8 = 1;
+pub const CLASS: u8 = 2;
+pub const PSEUDO: u8 = 3;
+pub const CHILD: u8 = 0;
+pub const DESCENDANT: u8 = 1;
 
-fn entry(property: u16) -> Record {
+pub fn entry(property: u16) -> Record {
     Entry {
         property,
         kind: 0,
@@ -26,32 +25,23 @@ fn entry(property: u16) -> Record {
     }
 }
 
-fn needs(which: u8, id: u32) -> Record {
+pub fn needs(which: u8, id: u32) -> Record {
     Requirement { which, id }
 }
 
-fn has(which: u8, id: u32) -> Record {
+pub fn has(which: u8, id: u32) -> Record {
     Item { which, id }
 }
 
-fn step(combinator: u8) -> Record {
+pub fn step(combinator: u8) -> Record {
     Step { combinator }
 }
 
-fn sheet() -> Record {
+pub fn sheet() -> Record {
     Sheet {
         ranking: 0,
         stamp: 7,
     }
-}
-
-/// A sheet of these records between its first and its end, then the rest.
-fn file(made: &[Record], walked: &[Record]) -> Vec<u8> {
-    let mut records = vec![sheet()];
-    records.extend(made);
-    records.push(End);
-    records.extend(walked);
-    file_of(&records)
 }
 
 /// Document 01's worked example.
@@ -99,37 +89,8 @@ pub fn worked_example() -> Vec<Record> {
     ]
 }
 
-pub fn fixed() -> Vec<Vec<u8>> {
-    let mut files = vec![file_of(&worked_example())];
-    files.extend(cuts());
-    files.extend(misplaced());
-    files.extend(codes());
-    files.extend(counts());
-    files.extend(closes());
-    files.extend(sums());
-    files.extend(sources());
-    files.extend(rooms());
-    files.extend(ranks());
-    files.extend(items());
-    files
-}
-
-/// The worked example cut at every length, and kinds that do not exist, alone
-/// and after its end.
-fn cuts() -> Vec<Vec<u8>> {
-    let whole = file_of(&worked_example());
-    let mut files: Vec<Vec<u8>> = (0..whole.len()).map(|end| whole[..end].to_vec()).collect();
-    for kind in [0, 13, 127, 128, 255] {
-        files.push(vec![kind]);
-        let mut unknown = whole.clone();
-        unknown.push(kind);
-        files.push(unknown);
-    }
-    files
-}
-
 /// One record of each kind, all codes in range.
-fn one_of_each() -> Vec<Record> {
+pub fn one_of_each() -> Vec<Record> {
     vec![
         sheet(),
         Direct { origin: 0 },
@@ -149,305 +110,6 @@ fn one_of_each() -> Vec<Record> {
     ]
 }
 
-/// Every kind after every beginning: each is placed right or misplaced.
-fn misplaced() -> Vec<Vec<u8>> {
-    let direct = Direct { origin: 0 };
-    let group = Group { origin: 0 };
-    let beginnings: Vec<Vec<Record>> = vec![
-        vec![],
-        vec![sheet()],
-        vec![sheet(), direct],
-        vec![sheet(), direct, entry(1)],
-        vec![sheet(), group],
-        vec![sheet(), group, Rule],
-        vec![sheet(), group, Rule, step(CHILD)],
-        vec![sheet(), group, Rule, step(CHILD), needs(TYPE, 1)],
-        vec![sheet(), group, Rule, step(CHILD), needs(TYPE, 1), entry(1)],
-        vec![sheet(), group, Rule, entry(1), step(CHILD)],
-        vec![sheet(), group, Rule, step(CHILD), Rule],
-        vec![sheet(), group, Rule, step(CHILD), group],
-        vec![sheet(), group, Rule, step(CHILD), direct],
-        vec![sheet(), direct, group],
-        vec![sheet(), End],
-        vec![sheet(), End, has(TYPE, 1)],
-        vec![sheet(), End, Enter { parent: 0 }],
-    ];
-    let mut files = Vec::new();
-    for beginning in &beginnings {
-        for record in one_of_each() {
-            // Followed by what shows whether it was taken.
-            let mut records = beginning.clone();
-            records.push(record);
-            files.push(file_of(&records));
-            records.extend([End, Enter { parent: 0 }]);
-            files.push(file_of(&records));
-        }
-    }
-    files
-}
-
-/// Every code at, and one over, what it may be, alone and where a misplaced
-/// record or a count comes before it.
-fn codes() -> Vec<Vec<u8>> {
-    let mut files = Vec::new();
-    for ranking in [0, 1, 2, 255] {
-        let first = Sheet { ranking, stamp: 7 };
-        files.push(file_of(&[first, End]));
-        files.push(file_of(&[first, first, End]));
-        files.push(file_of(&[sheet(), first, End]));
-        files.push(file_of(&[sheet(), End, first]));
-        files.push(vec![1, ranking, 0]);
-    }
-    for origin in [0, ORIGIN - 1, ORIGIN, ORIGIN + 1, 255] {
-        for opens in [Direct { origin }, Group { origin }] {
-            files.push(file(&[opens], &[]));
-            files.push(file(&[], &[opens]));
-            // The origin's fault comes before that of the style it closes.
-            let unsorted = [Direct { origin: 0 }, entry(2), entry(1), opens];
-            files.push(file(&unsorted, &[]));
-        }
-        // The origin's fault comes before the count.
-        let mut many = vec![Direct { origin: 0 }; DIRECT_STYLES];
-        many.push(Direct { origin });
-        files.push(file(&many, &[]));
-    }
-    for code in [0, 1, 2, 255] {
-        let rule = [Group { origin: 0 }, Rule];
-        files.push(file(&[&rule[..], &[step(code)]].concat(), &[]));
-        files.push(file(&[&rule[..], &[step(CHILD), step(code)]].concat(), &[]));
-        let mut many = rule.to_vec();
-        many.extend([step(CHILD); STEPS]);
-        many.push(step(code));
-        files.push(file(&many, &[]));
-    }
-    for which in [TYPE, PART, CLASS, PSEUDO, 4, 255] {
-        let rule = [Group { origin: 0 }, Rule, step(CHILD), needs(which, 1)];
-        let enter = Enter { parent: 0 };
-        files.push(file(&rule, &[enter, has(which, 1), enter]));
-        files.push(file(&rule[..3], &[has(which, 1), enter]));
-        files.push(file(
-            &[Group { origin: 0 }, Rule, needs(which, 1)],
-            &[enter],
-        ));
-    }
-    for kind in [0, 1, 2, 3, 4, 255] {
-        let entry = Entry {
-            property: 1,
-            kind,
-            number: u32::MAX,
-        };
-        let winner = Winner {
-            state: 0,
-            property: 1,
-        };
-        files.push(file(&[Direct { origin: 0 }, entry], &[winner]));
-        files.push(file(&[Group { origin: 0 }, Rule, entry], &[winner]));
-        files.push(file(&[entry], &[winner]));
-    }
-    files
-}
-
-/// Every count of one thing at, one under and one over its size.
-fn counts() -> Vec<Vec<u8>> {
-    let mut files = Vec::new();
-    let around = |size: usize| [size - 1, size, size + 1];
-    let group = Group { origin: 0 };
-    for count in around(DIRECT_STYLES) {
-        let made = vec![Direct { origin: 0 }; count];
-        files.push(file(&made, &[]));
-        // The last one closes a style whose properties are not ascending.
-        let mut made = vec![Direct { origin: 0 }; count - 1];
-        made.extend([entry(2), entry(1), Direct { origin: 0 }]);
-        files.push(file(&made, &[]));
-    }
-    for count in around(RULES) {
-        let enter = [Enter { parent: 0 }];
-        let mut made = vec![group];
-        made.extend(vec![Rule; count]);
-        files.push(file(&made, &enter));
-        let made: Vec<Record> = (0..count)
-            .flat_map(|_| [group, Rule, step(CHILD)])
-            .collect();
-        files.push(file(&made, &enter));
-    }
-    for count in around(STEPS) {
-        for code in [CHILD, DESCENDANT] {
-            let mut made = vec![group, Rule, step(CHILD)];
-            made.extend(vec![step(code); count - 1]);
-            made.push(entry(1));
-            let walked: Vec<Record> = (0..10).map(|parent| Enter { parent }).collect();
-            files.push(file(&made, &walked));
-        }
-    }
-    for which in [CLASS, PSEUDO] {
-        for count in around(STEP_IDS) {
-            for repeated in [false, true] {
-                let id = |number: usize| if repeated { 3 } else { number as u32 };
-                let mut made = vec![group, Rule, step(CHILD)];
-                made.extend((0..count).rev().map(|number| needs(which, id(number))));
-                let mut walked: Vec<Record> = (0..9).map(|id| has(which, id)).collect();
-                walked.push(Enter { parent: 0 });
-                files.push(file(&made, &walked));
-                // A second step has its own counts.
-                made.push(step(CHILD));
-                made.extend((0..count).map(|number| needs(which, id(number))));
-                files.push(file(&made, &walked));
-            }
-        }
-        for count in [
-            SUBJECT_IDS - 1,
-            SUBJECT_IDS,
-            SUBJECT_IDS + 1,
-            SUBJECT_IDS + 2,
-        ] {
-            for repeated in [false, true] {
-                let id = |number: usize| if repeated { 3 } else { number as u32 };
-                let mut made = vec![group];
-                for id in [3, SUBJECT_IDS as u32 - 1, SUBJECT_IDS as u32] {
-                    made.extend([Rule, step(CHILD), needs(which, id)]);
-                }
-                let mut walked: Vec<Record> =
-                    (0..count).map(|number| has(which, id(number))).collect();
-                walked.extend([has(TYPE, 1), has(PART, 1), Enter { parent: 0 }]);
-                walked.extend([has(which, 3), Enter { parent: 0 }]);
-                files.push(file(&made, &walked));
-            }
-        }
-    }
-    for count in around(STYLE_ENTRIES) {
-        let entries = (0..count).map(|number| entry(number as u16));
-        for opens in [&[Direct { origin: 0 }][..], &[group, Rule, step(CHILD)]] {
-            let made: Vec<Record> = opens.iter().copied().chain(entries.clone()).collect();
-            let walked = [
-                Enter { parent: 0 },
-                Changed { old: 0, new: 1 },
-                Changed { old: 1, new: 1 },
-            ];
-            files.push(file(&made, &walked));
-        }
-    }
-    files
-}
-
-/// Styles that are refused, by each record that closes one.
-fn closes() -> Vec<Vec<u8>> {
-    let mut files = Vec::new();
-    for (first, second) in [(1, 2), (1, 1), (2, 1), (0, 65_535), (65_535, 0)] {
-        for opens in [&[Direct { origin: 0 }][..], &[Group { origin: 0 }, Rule]] {
-            for closes in [&[][..], &[Direct { origin: 1 }], &[Group { origin: 1 }]] {
-                let mut made = opens.to_vec();
-                made.extend([entry(first), entry(second)]);
-                made.extend(closes);
-                files.push(file(&made, &[Enter { parent: 0 }]));
-            }
-        }
-        // The fault is in the first rule; a later rule does not close it.
-        let mut made = vec![Group { origin: 0 }, Rule, entry(first), entry(second)];
-        made.extend([Rule, entry(1)]);
-        files.push(file(&made, &[Enter { parent: 0 }]));
-    }
-    files
-}
-
-/// A rule whose steps hold `ids` required ids, at most 128.
-fn rule_of_ids(ids: usize) -> Vec<Record> {
-    let mut records = vec![Rule];
-    for number in 0..ids {
-        if number % (2 * STEP_IDS) == 0 {
-            records.push(step(CHILD));
-        }
-        let which = if number % 2 == 0 { CLASS } else { PSEUDO };
-        records.push(needs(which, number as u32));
-    }
-    records
-}
-
-/// The two sums of a whole sheet, at, one under and one over.
-fn sums() -> Vec<Vec<u8>> {
-    let mut files = Vec::new();
-    let in_rule = 2 * STEP_IDS * STEPS;
-    for sum in [SHEET_IDS - 1, SHEET_IDS, SHEET_IDS + 1] {
-        let mut made = Vec::new();
-        let mut left = sum;
-        while left > 0 {
-            let ids = left.min(in_rule);
-            made.push(Group { origin: 0 });
-            made.extend(rule_of_ids(ids));
-            left -= ids;
-        }
-        files.push(file(&made, &[Enter { parent: 0 }]));
-        // Type and part add nothing to the ids held.
-        made.extend([Rule, step(CHILD), needs(TYPE, 1), needs(PART, 1)]);
-        files.push(file(&made, &[Enter { parent: 0 }]));
-    }
-    let mut full: Vec<Record> = vec![Group { origin: 0 }];
-    for _ in 0..SHEET_IDS / in_rule - 1 {
-        full.extend(rule_of_ids(in_rule));
-    }
-    full.extend(rule_of_ids(in_rule - 1));
-    // Nor does a repeated id: the last one fills the sum, the next is too many.
-    let mut repeated = full;
-    repeated.extend([Rule, step(CHILD), needs(CLASS, 1), needs(CLASS, 1)]);
-    files.push(file(&repeated, &[Enter { parent: 0 }]));
-    repeated.push(needs(PSEUDO, 1));
-    files.push(file(&repeated, &[Enter { parent: 0 }]));
-
-    for sum in [SHEET_ENTRIES - 1, SHEET_ENTRIES, SHEET_ENTRIES + 1] {
-        for directs in [0, 1, DIRECT_STYLES] {
-            let mut made = Vec::new();
-            let mut property = 0;
-            let mut style = 0;
-            while property < sum {
-                if style < directs {
-                    made.push(Direct { origin: 0 });
-                } else {
-                    if style == directs {
-                        made.push(Group { origin: 0 });
-                    }
-                    made.extend([Rule, step(CHILD)]);
-                }
-                let end = sum.min(property + STYLE_ENTRIES);
-                made.extend((property..end).map(|property| entry(property as u16)));
-                property = end;
-                style += 1;
-            }
-            let walked = [
-                Enter { parent: 0 },
-                Changed { old: 0, new: 1 },
-                Winner {
-                    state: 1,
-                    property: 4095,
-                },
-            ];
-            files.push(file(&made, &walked));
-        }
-    }
-    files
-}
-
-/// Source indexes to the last, and one more, with each record that closes.
-fn sources() -> Vec<Vec<u8>> {
-    let mut files = Vec::new();
-    for groups in [SOURCE_INDEX, SOURCE_INDEX + 1, SOURCE_INDEX + 2] {
-        let made = vec![Group { origin: 0 }; groups];
-        files.push(file(&made, &[Enter { parent: 0 }]));
-    }
-    let mut made = vec![Group { origin: 0 }; SOURCE_INDEX];
-    made.extend([Group { origin: 0 }, Rule, step(CHILD), entry(1)]);
-    let winner = Winner {
-        state: 1,
-        property: 1,
-    };
-    files.push(file(&made, &[Enter { parent: 0 }, winner]));
-    // 1 comes before 7.
-    made.extend([Group { origin: 0 }, Rule, entry(2), entry(1)]);
-    files.push(file(&made, &[Enter { parent: 0 }, winner]));
-    let mut made = vec![Group { origin: 0 }; SOURCE_INDEX + 1];
-    made.extend([Direct { origin: 0 }, entry(1), Direct { origin: 0 }]);
-    files.push(file(&made, &[Enter { parent: 0 }]));
-    files
-}
-
 /// A subject with the classes whose bits are set.
 fn classes(bits: usize) -> Vec<Record> {
     let of = (0..SUBJECT_IDS as u32).filter(|id| bits >> id & 1 == 1);
@@ -455,212 +117,131 @@ fn classes(bits: usize) -> Vec<Record> {
 }
 
 /// Enters a subject with these classes from a parent.
-fn enter_classes(bits: usize, parent: u32) -> Vec<Record> {
+pub fn enter_classes(bits: usize, parent: u32) -> Vec<Record> {
     let mut records = classes(bits);
     records.push(Enter { parent });
     records
 }
 
-/// The room for states, for cursors and for matched numbers, filled to the
-/// last place and asked for one more; held states still answer.
-fn rooms() -> Vec<Vec<u8>> {
-    let mut files = Vec::new();
-
-    // Nine classes, one rule each: 512 lists of matched rules beside the root.
-    let mut made = vec![Group { origin: 0 }];
-    for id in 0..9 {
-        made.extend([Rule, step(CHILD), needs(CLASS, id), entry(id as u16)]);
-    }
-    let mut walked = Vec::new();
-    for bits in 0..STATES {
-        walked.extend(enter_classes(bits, 0));
-    }
-    let last = STATES as u32 - 1;
-    for state in [last - 1, last, last + 1, last + 2] {
-        walked.extend(enter_classes(5, state));
-        walked.push(Changed { old: 0, new: state });
-        walked.push(Winner { state, property: 0 });
-    }
-    walked.extend(enter_classes(STATES - 1, 0));
-    files.push(file(&made, &walked));
-
-    // 256 rules, 16 for each of 16 classes. With one step each, a subject's
-    // classes list 16 rules apiece; with two, they leave 16 cursors apiece.
-    for steps in [1, 2] {
-        let mut made = vec![Group { origin: 0 }];
-        for rule in 0..RULES as u32 {
-            made.extend([Rule, step(CHILD), needs(CLASS, rule % 16)]);
-            if steps == 2 {
-                made.extend([step(CHILD), needs(TYPE, 99)]);
-            }
-        }
-        let all = 0xffff;
-        let mut walked = Vec::new();
-        // 16 subjects that lack one class: 240 of the 256 places of 16. The
-        // root's own cursors take the other 16 if there are two steps.
-        for lacking in 0..16 {
-            walked.extend(enter_classes(all & !(1 << lacking), 0));
-        }
-        let one_more = enter_classes(1, 0);
-        if steps == 1 {
-            let mut nearly = walked.clone();
-            nearly.extend(enter_classes(all >> 1, 0));
-            nearly.extend(enter_classes(all >> 2, 0));
-            nearly.extend(one_more.clone());
-            nearly.extend(enter_classes(all, 0));
-            files.push(file(&made, &nearly));
-            walked.extend(enter_classes(all, 0));
-        }
-        walked.extend(one_more.clone());
-        walked.extend(enter_classes(0, 0));
-        walked.extend(one_more);
-        walked.extend(enter_classes(all & !1, 3));
-        walked.extend([has(TYPE, 99), Enter { parent: 1 }]);
-        files.push(file(&made, &walked));
-    }
-
-    // Class k stands in 2^k rules, so a subject's bits are the length of its
-    // list: the room can be filled to one under, and asked for one too many.
-    for steps in [1, 2] {
-        let mut made = vec![Group { origin: 0 }];
-        for rule in 1..RULES as u32 {
-            made.extend([Rule, step(CHILD), needs(CLASS, rule.ilog2())]);
-            if steps == 2 {
-                made.extend([step(CHILD), needs(TYPE, 99)]);
-            }
-        }
-        // With two steps the root has taken 255 of the cursors.
-        let mut left = if steps == 1 { MATCHED } else { CURSORS - 255 };
-        let mut walked = Vec::new();
-        for bits in (200..RULES).rev() {
-            if left > 2 * bits {
-                walked.extend(enter_classes(bits, 0));
-                left -= bits;
-            }
-        }
-        for bits in [left / 2, left - left / 2 - 1, 2, 1, 3, 0, 1] {
-            walked.extend(enter_classes(bits, 0));
-        }
-        files.push(file(&made, &walked));
-    }
-
-    // Long descendant rules: cursors pile up as the walk goes down.
-    let mut made = vec![Group { origin: 0 }];
-    for rule in 0..64 {
-        made.extend([Rule, step(CHILD)]);
-        for number in 1..STEPS as u32 {
-            made.extend([step(DESCENDANT), needs(TYPE, (rule + number) % 5)]);
-        }
-        made.push(entry(rule as u16));
-    }
-    let mut walked = Vec::new();
-    for depth in 0..40 {
-        walked.extend([has(TYPE, depth % 5), Enter { parent: depth }]);
-    }
-    walked.push(Changed { old: 0, new: 8 });
-    files.push(file(&made, &walked));
-    files
-}
-
-/// Tags that are replaced, in a step and in a subject; and how long items
-/// last: to the next enter, accepted or not, and past everything else.
-fn items() -> Vec<Vec<u8>> {
-    let mut files = Vec::new();
-    let enter = Enter { parent: 0 };
-    for which in [TYPE, PART, CLASS, PSEUDO] {
-        for (needed, given) in [([1, 2], [2, 2]), ([2, 1], [2, 1]), ([2, 2], [1, 2])] {
-            let made = [
-                Group { origin: 0 },
-                Rule,
-                step(CHILD),
-                needs(which, needed[0]),
-                needs(which, needed[1]),
-                entry(1),
-            ];
-            let subject = [has(which, given[0]), has(which, given[1])];
-            let changed = Changed { old: 0, new: 0 };
-            let winner = Winner {
-                state: 0,
-                property: 1,
-            };
-            let betweens: [&[Record]; 6] = [
-                &[],
-                &[changed],
-                &[winner],
-                &[Changed { old: 9, new: 0 }, winner, changed],
-                &[enter],
-                &[Enter { parent: 9 }],
-            ];
-            for between in betweens {
-                let mut walked = subject.to_vec();
-                walked.extend(between);
-                walked.extend([enter, enter, winner]);
-                files.push(file(&made, &walked));
-            }
-        }
-    }
-    files
-}
-
-/// Pairs of sources that each part of the key decides, under both rankings.
-fn ranks() -> Vec<Vec<u8>> {
-    let mut files = Vec::new();
-    let weights: [&[Record]; 7] = [
-        &[],
-        &[needs(TYPE, 1)],
-        &[needs(PART, 1)],
-        &[needs(CLASS, 1)],
-        &[needs(PSEUDO, 1)],
-        &[needs(TYPE, 1), needs(PART, 1)],
-        &[needs(CLASS, 1), needs(CLASS, 2)],
-    ];
-    let subject = [
-        has(TYPE, 1),
-        has(PART, 1),
-        has(CLASS, 2),
-        has(CLASS, 1),
-        has(PSEUDO, 1),
-        Enter { parent: 0 },
-    ];
-    let asked = [
-        Winner {
-            state: 1,
-            property: 1,
-        },
-        Changed { old: 0, new: 1 },
-        Changed { old: 1, new: 0 },
-    ];
-    for ranking in [0, 1] {
-        for left in weights {
-            for right in weights {
-                for (origin, same_group) in [(0, true), (0, false), (1, false)] {
-                    let stamp = u32::MAX;
-                    let mut records = vec![Sheet { ranking, stamp }, Group { origin }, Rule];
-                    records.push(step(CHILD));
-                    records.extend(left);
-                    records.push(entry(1));
-                    if !same_group {
-                        records.push(Group { origin: 0 });
-                    }
-                    records.extend([Rule, step(CHILD)]);
-                    records.extend(right);
-                    records.extend([entry(1), Direct { origin: 0 }, entry(1), End]);
-                    records.extend(subject);
-                    records.extend(asked);
-                    files.push(file_of(&records));
-                }
-            }
-        }
-    }
-    files
-}
-
+/// A file as it comes, or with bytes damaged, with records damaged, or cut.
 pub fn random_file(random: &mut Random) -> Vec<u8> {
-    let mut file = file_of(&valid(random));
-    if random.once_in(3) {
-        damage_bytes(&mut file, random);
+    let mut records = valid(random);
+    let how = random.below(20);
+    if (10..14).contains(&how) {
+        damage_records(&mut records, random);
+    }
+    let mut file = file_of(&records);
+    match how {
+        14..18 => damage_bytes(&mut file, random),
+        18.. => file.truncate(random.below(file.len())),
+        _ => {}
     }
     file
+}
+
+/// One or two records left out, doubled, exchanged, put in, or with a code
+/// out of range.
+fn damage_records(records: &mut Vec<Record>, random: &mut Random) {
+    for _ in 0..random.between(1, 2) {
+        let place = random.below(records.len());
+        match random.below(6) {
+            0 if records.len() > 1 => {
+                records.remove(place);
+            }
+            1 => records.insert(place, records[place]),
+            2 => {
+                let other = random.below(records.len());
+                records.swap(place, other);
+            }
+            3 => records.insert(place, random.pick(&one_of_each())),
+            _ => wrong_code(records, random),
+        }
+    }
+}
+
+/// Gives the first record from a place on that has a code one out of range.
+fn wrong_code(records: &mut [Record], random: &mut Random) {
+    let begin = random.below(records.len());
+    let over = random.pick(&[0, 1, 200]);
+    for record in &mut records[begin..] {
+        match record {
+            Sheet { ranking: code, .. } | Step { combinator: code } => *code = 2 + over,
+            Direct { origin } | Group { origin } => *origin = ORIGIN + 1 + over,
+            Requirement { which: code, .. }
+            | Item { which: code, .. }
+            | Entry { kind: code, .. } => *code = 4 + over,
+            _ => continue,
+        }
+        return;
+    }
+}
+
+/// A file in the making. It is read as it is made, so that it is about states
+/// that there are.
+#[derive(Default)]
+struct Making {
+    records: Vec<Record>,
+    reader: Reader,
+    over: bool,
+}
+
+impl Making {
+    fn of(sheet: Vec<Record>) -> Self {
+        let mut making = Self::default();
+        for record in sheet {
+            making.put(record);
+        }
+        making.put(End);
+        making
+    }
+
+    /// Adds a record; the line for it, unless it is refused.
+    fn put(&mut self, record: Record) -> Option<String> {
+        self.records.push(record);
+        if self.over {
+            return None;
+        }
+        let taken = self.reader.take(record);
+        self.over = match taken {
+            Ok(_) => false,
+            Err(fault) => fault.number() == 10 || !self.reader.walks(),
+        };
+        taken.ok()
+    }
+
+    /// Enters a subject of these items; the child, unless it is refused.
+    fn enter(&mut self, items: &[Record], parent: u32) -> Option<u32> {
+        for &item in items {
+            self.put(item);
+        }
+        let line = self.put(Enter { parent })?;
+        line.split(' ').nth(1)?.parse().ok()
+    }
+
+    /// The number of a state, mostly of one that there is.
+    fn state(&self, random: &mut Random) -> u32 {
+        let states = self.reader.states();
+        match random.below(60) {
+            0 => random.pick(&EXTREMES),
+            1 => states as u32,
+            _ => random.below(states.max(1)) as u32,
+        }
+    }
+
+    fn ask(&mut self, state: u32, random: &mut Random) {
+        if random.once_in(2) {
+            let property = property(random);
+            self.put(Winner { state, property });
+        } else {
+            let other = self.state(random);
+            let (old, new) = if random.once_in(2) {
+                (state, other)
+            } else {
+                (other, state)
+            };
+            self.put(Changed { old, new });
+        }
+    }
 }
 
 fn id(random: &mut Random) -> u32 {
@@ -681,22 +262,113 @@ fn which(random: &mut Random) -> u8 {
     random.pick(&[TYPE, TYPE, TYPE, PART, CLASS, CLASS, PSEUDO])
 }
 
-/// The number of a state after some enters. Many of those lead to the same
-/// states, so low numbers are likelier to be there.
-fn state(enters: usize, random: &mut Random) -> u32 {
-    match random.below(30) {
-        0 => random.pick(&EXTREMES),
-        1 => enters as u32,
-        _ => {
-            let most = random.below(1 + enters / 2);
-            random.below(1 + most) as u32
+/// Mostly one, so that there are many of it.
+fn mostly(one: u8, random: &mut Random) -> u8 {
+    if random.once_in(6) {
+        which(random)
+    } else {
+        one
+    }
+}
+
+/// The items of a subject.
+fn subject(random: &mut Random) -> Vec<Record> {
+    if random.once_in(40) {
+        let most = random.pick(&[CLASS, PSEUDO]);
+        let which = |random: &mut Random| mostly(most, random);
+        return (0..random.below(30))
+            .map(|_| has(which(random), id(random)))
+            .collect();
+    }
+    (0..random.below(4))
+        .map(|_| has(which(random), id(random)))
+        .collect()
+}
+
+fn valid(random: &mut Random) -> Vec<Record> {
+    let making = match random.below(100) {
+        0..4 => crowded(random),
+        4..6 => long(random),
+        6..11 => brim(random),
+        11..20 => tree(Making::of(sources(20, 15, random)), 250, random),
+        20..40 => tree(Making::of(sources(6, 5, random)), 40, random),
+        _ => wander(Making::of(sources(6, 5, random)), 30, random),
+    };
+    making.records
+}
+
+/// A sheet but for its end: direct styles and groups, in any order.
+fn sources(most: usize, most_rules: usize, random: &mut Random) -> Vec<Record> {
+    let ranking = random.below(2) as u8;
+    let stamp = random.pick(&EXTREMES);
+    let mut records = vec![Sheet { ranking, stamp }];
+    for _ in 0..random.below(most) {
+        // Mostly one origin, so that the rest of the key decides.
+        let origin = if random.once_in(3) {
+            random.below(8) as u8
+        } else {
+            0
+        };
+        if random.once_in(3) {
+            records.push(Direct { origin });
+            entries(&mut records, random);
+        } else {
+            records.push(Group { origin });
+            for _ in 0..random.below(most_rules) {
+                rule(&mut records, random);
+            }
         }
     }
+    records
+}
+
+/// Enters from any state there is, with questions between.
+fn wander(mut making: Making, most: usize, random: &mut Random) -> Making {
+    for _ in 0..random.between(3, most) {
+        // Items last past questions.
+        if random.once_in(8) {
+            making.put(has(which(random), id(random)));
+        }
+        let state = making.state(random);
+        if random.once_in(3) {
+            making.ask(state, random);
+        } else {
+            making.enter(&subject(random), state);
+        }
+    }
+    making
+}
+
+/// A document's walk: elements opened and closed, down and up again, each
+/// entered from its parent's state and asked about.
+fn tree(mut making: Making, elements: usize, random: &mut Random) -> Making {
+    let kinds: Vec<Vec<Record>> = (0..random.between(1, 6)).map(|_| subject(random)).collect();
+    // Some go straight down: a walk may be of any depth.
+    let closing = random.pick(&[2, 3, 1000]);
+    let mut open = vec![0];
+    for _ in 0..random.between(2, elements) {
+        while open.len() > 1 && random.once_in(closing) {
+            open.pop();
+        }
+        let parent = open[open.len() - 1];
+        let items = &kinds[random.below(kinds.len())];
+        if let Some(child) = making.enter(items, parent) {
+            open.push(child);
+            if random.once_in(4) {
+                let old = parent;
+                making.put(Changed { old, new: child });
+            }
+        }
+        if random.once_in(4) {
+            making.ask(open[open.len() - 1], random);
+        }
+    }
+    making
 }
 
 /// Many rules over few classes, and subjects with many: the room runs out, at
 /// a place that no edge was made for.
-fn crowded(random: &mut Random) -> Vec<Record> {
+fn crowded(random: &mut Random) -> Making {
     let ranking = random.below(2) as u8;
     let mut records = vec![Sheet { ranking, stamp: 1 }, Group { origin: 0 }];
     let longest = random.between(1, 4);
@@ -715,73 +387,182 @@ fn crowded(random: &mut Random) -> Vec<Record> {
         }
         records.push(entry(random.below(6) as u16));
     }
-    records.push(End);
+    let mut making = Making::of(records);
     let mut subjects: Vec<usize> = (0..8).map(|_| random.below(1 << SUBJECT_IDS)).collect();
-    for enters in 0..random.between(20, 120) {
+    for _ in 0..random.between(20, 120) {
         if random.once_in(3) {
             subjects.push(random.below(1 << SUBJECT_IDS));
         }
-        let parent = state(enters, random);
-        let bits = random.pick(&subjects);
-        records.extend(enter_classes(bits, parent));
+        let parent = making.state(random);
+        making.enter(&classes(random.pick(&subjects)), parent);
+        if random.once_in(10) {
+            making.ask(parent, random);
+        }
     }
-    let (old, new) = (state(20, random), state(20, random));
-    records.push(Changed { old, new });
-    records
+    making
 }
 
-fn valid(random: &mut Random) -> Vec<Record> {
-    if random.once_in(25) {
-        return crowded(random);
-    }
-    // Now and then so much that the room runs out.
-    let large = random.once_in(12);
+/// Long lists: many rules that one subject fits, with many properties.
+fn long(random: &mut Random) -> Making {
     let ranking = random.below(2) as u8;
-    let stamp = random.pick(&EXTREMES);
-    let mut records = vec![Sheet { ranking, stamp }];
-    for _ in 0..random.below(if large { 20 } else { 6 }) {
-        // Mostly one origin, so that the rest of the key decides.
-        let origin = if random.once_in(3) {
-            random.below(8) as u8
-        } else {
-            0
-        };
-        if random.once_in(3) {
-            records.push(Direct { origin });
-            entries(&mut records, random);
-        } else {
+    let mut records = vec![Sheet { ranking, stamp: 2 }];
+    // As long as it goes, or less.
+    let most = random.once_in(3);
+    let rules = if most {
+        RULES
+    } else {
+        random.between(RULES / 2, RULES)
+    };
+    // Each rule has properties of its own, or shares them with others.
+    let each = if most {
+        SHEET_ENTRIES / RULES
+    } else {
+        random.between(1, SHEET_ENTRIES / RULES)
+    };
+    let apart = if most { each } else { random.between(1, each) };
+    for rule in 0..rules {
+        if rule == 0 || random.once_in(20) {
+            let origin = random.below(8) as u8;
             records.push(Group { origin });
-            for _ in 0..random.below(if large { 15 } else { 5 }) {
-                rule(&mut records, random);
-            }
         }
+        records.extend([Rule, step(CHILD)]);
+        if random.once_in(3) {
+            records.push(needs(CLASS, random.below(3) as u32));
+        }
+        let first = rule * apart;
+        records.extend((first..first + each).map(|property| entry(property as u16)));
     }
-    records.push(End);
-    let mut enters = 0;
-    for _ in 0..random.between(3, if large { 250 } else { 30 }) {
-        let state = |random: &mut Random| state(enters, random);
-        match random.below(6) {
-            0 => records.push(Changed {
-                old: state(random),
-                new: state(random),
-            }),
-            1 => records.push(Winner {
-                state: state(random),
-                property: property(random),
-            }),
-            _ => {
-                let items = if random.once_in(30) { 40 } else { 4 };
-                for _ in 0..random.below(items) {
-                    records.push(has(which(random), id(random)));
+    let mut making = Making::of(records);
+    // All three classes, and then any of them.
+    for bits in [7, random.below(8), random.below(8), random.below(8)] {
+        let parent = making.state(random);
+        making.enter(&classes(bits), parent);
+    }
+    making.put(Changed { old: 1, new: 0 });
+    for _ in 0..4 {
+        let (old, new) = (making.state(random), making.state(random));
+        making.put(Changed { old, new });
+        let property = random.below(SHEET_ENTRIES) as u16;
+        making.put(Winner {
+            state: new,
+            property,
+        });
+    }
+    making
+}
+
+/// One size of a whole file reached, or brought over, anywhere.
+fn brim(random: &mut Random) -> Making {
+    let more = usize::from(!random.once_in(3));
+    let ranking = random.below(2) as u8;
+    let mut records = vec![Sheet { ranking, stamp: 3 }];
+    match random.below(6) {
+        0 => {
+            for number in 0..DIRECT_STYLES + more {
+                let origin = random.below(3) as u8;
+                records.push(Direct { origin });
+                some_entries(number % 4, &mut records, random);
+                if random.once_in(4) {
+                    records.push(Group { origin });
                 }
-                records.push(Enter {
-                    parent: state(random),
-                });
-                enters += 1;
             }
         }
+        1 => {
+            for number in 0..RULES + more {
+                if number == 0 || random.once_in(20) {
+                    let origin = random.below(3) as u8;
+                    records.push(Group { origin });
+                }
+                records.extend([Rule, step(CHILD)]);
+                some_entries(number % 3, &mut records, random);
+            }
+        }
+        2 => {
+            let mut left = SHEET_ENTRIES + more;
+            // Rules come last: there are enough of them for the rest.
+            for number in 0.. {
+                let count = left.min(random.between(14, STYLE_ENTRIES));
+                left -= count;
+                match number {
+                    0..20 => records.push(Direct { origin: 1 }),
+                    20 => records.extend([Group { origin: 0 }, Rule]),
+                    _ => records.extend([Rule, step(CHILD)]),
+                }
+                some_entries(count, &mut records, random);
+                if left == 0 {
+                    break;
+                }
+            }
+        }
+        3 => {
+            let mut left = SHEET_IDS + more;
+            records.push(Group { origin: 0 });
+            for number in 0.. {
+                if number % STEPS == 0 {
+                    records.push(Rule);
+                }
+                records.push(step(CHILD));
+                for which in [CLASS, PSEUDO] {
+                    let given = random.between(4, STEP_IDS);
+                    let held = left.min(random.between(3, given));
+                    left -= held;
+                    for place in 0..if held == 0 { 0 } else { given } {
+                        records.push(needs(which, (place % held) as u32));
+                    }
+                }
+                if left == 0 {
+                    break;
+                }
+            }
+        }
+        _ => return many_states(random),
     }
-    records
+    let mut making = Making::of(records);
+    making.enter(&subject(random), 0);
+    for _ in 0..20 {
+        let state = making.state(random);
+        making.ask(state, random);
+    }
+    making
+}
+
+/// Nearly every subject leads to a state of its own.
+fn many_states(random: &mut Random) -> Making {
+    let ranking = random.below(2) as u8;
+    let mut records = vec![Sheet { ranking, stamp: 4 }, Group { origin: 0 }];
+    for id in 0..12 {
+        records.extend([Rule, step(CHILD), needs(CLASS, id), entry(id as u16 / 2)]);
+    }
+    let mut making = Making::of(records);
+    for _ in 0..random.between(500, 700) {
+        let parent = making.state(random);
+        // Not many classes each, or the matched numbers run out first.
+        let bits = random.below(1 << 12);
+        let few = if bits.count_ones() > 6 {
+            !bits & 0xfff
+        } else {
+            bits
+        };
+        making.enter(&classes(few), parent);
+    }
+    for _ in 0..10 {
+        let state = making.state(random);
+        making.ask(state, random);
+    }
+    making
+}
+
+/// So many entries, ascending.
+fn some_entries(count: usize, records: &mut Vec<Record>, random: &mut Random) {
+    let mut property = 0;
+    for _ in 0..count {
+        property += random.between(1, 3) as u16;
+        records.push(Entry {
+            property,
+            kind: random.below(4) as u8,
+            number: random.word(),
+        });
+    }
 }
 
 fn entries(records: &mut Vec<Record>, random: &mut Random) {
@@ -832,7 +613,13 @@ fn rule(records: &mut Vec<Record>, random: &mut Random) {
         };
         records.push(step(combinator));
         let needed = match random.below(20) {
-            0 => random.below(20),
+            0 => {
+                let most = random.pick(&[CLASS, PSEUDO]);
+                for _ in 0..random.below(12) {
+                    records.push(needs(mostly(most, random), id(random)));
+                }
+                0
+            }
             1..=4 => 2,
             5..=8 => 0,
             _ => 1,

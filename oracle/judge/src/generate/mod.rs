@@ -12,6 +12,7 @@ pub mod cascade_edges;
 pub mod cascade_lists;
 pub mod cascades;
 pub mod damage;
+pub mod file_edges;
 pub mod files;
 pub mod lists;
 pub mod paths;
