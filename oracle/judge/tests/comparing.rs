@@ -167,7 +167,7 @@ fn planted_difference_in_files_is_made_small() {
     let (status, told) = compare("files", run, "3000");
     assert_eq!(status, Some(1));
     let (_, records) = told.split_once("at 0: ").expect("the records");
-    assert!(records.lines().count() <= 13, "{told}");
+    assert!(records.lines().count() <= 14, "{told}");
     assert!(
         told.contains("expected: winner 1: rule 1 source 0\n"),
         "{told}"

@@ -354,6 +354,10 @@ fn sources() -> Vec<Vec<u8>> {
     made.push(Direct { origin: ORIGIN + 1 });
     made.remove(0);
     files.push(file(&made, &[]));
+    // 1 comes before 7 in a direct style as well.
+    let mut made = vec![Group { origin: 0 }; SOURCE_INDEX + 1];
+    made.extend([Direct { origin: 0 }, entry(2), entry(1)]);
+    files.push(file(&made, &[]));
     files
 }
 
