@@ -1,4 +1,4 @@
--- What one cursor leaves and lists, by the sheet's words, and the ways through the code that marks it. Assumes nothing.
+-- What one cursor leaves and lists, by the sheet's words, and the ways through the code that puts it. Assumes nothing.
 use mathlib.Core.Path.{_≡_, refl, sym, ap, _∙_}
 use mathlib.Core.Bool.{Bool, true, false, _&&_, not, and-false}
 use mathlib.Core.Option.{none}
@@ -6,14 +6,13 @@ use mathlib.Core.List.{List, [], _∷_, _++_}
 use Prim.Native.Nat.{ℕ, suc, _+_, _-_, _/_, _%_, _≤_, _<_}
 use native.Mathlib.Omega.{arith}
 use native.Mathlib.Decide.{ℕ-discrete}
-use lib.ListN.{length, set, getElem?}
+use lib.ListN.{getElem?}
 use lib.Dec.{ltb, eqb}
 use mir.Syntax.{w32}
 use mir.Val.{Fits}
-use borrow.Author.Tests.{lt-ltb, eq-eqb, ne-eqb, eqb-false}
+use borrow.Author.Tests.{lt-ltb, eq-eqb, ne-eqb}
 use Rattle.theory.specs.Lists.{only}
 use Rattle.theory.specs.States.{rule, cursor, descends}
-use Rattle.theory.proofs.Spreads.{flatMap-one}
 use Rattle.lent.specs.Pool.{endsIn, startOf}
 use Rattle.selector.specs.Tags.{Tags, asSets, stepMatches}
 use Rattle.selector.specs.Rows.{rowAt, combOf}
@@ -26,8 +25,8 @@ use Rattle.sheet.proofs.Readers.{step-sets}
 use Rattle.sheet.proofs.Answers.{between-past}
 use Rattle.table.specs.Tables.{selectorsOf}
 use Rattle.table.proofs.Selectors.{selector-past, selector-at, selector-length, selector-part}
-use Rattle.advance.specs.Advancing.{leaves, lists, marked, Marked}
-use Rattle.advance.proofs.Flags.{marked-append}
+use Rattle.advance.specs.Advancing.{leaves, lists, Free, Put, Kept, Puts}
+use Rattle.advance.proofs.Putting.{put-none, put-then, put-free}
 
 -- ---- one step
 
@@ -95,83 +94,70 @@ module _ (w : List ℕ) (x : Tags) (c : ℕ) where
         )
         (refl, refl)
 
--- ---- the ways through `mark_kept`: d is asked for, b was answered
+-- ---- the ways through `put_kept`: d is asked for, b was answered
 
-module _ (c : ℕ) (m : List ℕ) (d : Bool) where
-  pub kept-first : c % 8 ≡ 0 → m ≡ marked (only (ltb 0 (c % 8) && d) c) m
-  unfolding marked
-  kept-first e = rw e
+module _ {c used : ℕ} {out : List ℕ} (f : Free 2 c out used) (d : Bool) where
+  kept : {out′ : List ℕ} {used′ : ℕ} → Put out used (only (ltb 0 (c % 8) && d) c) out′ used′ → Kept out used c (only (ltb 0 (c % 8) && d) c) out′ used′
+  kept p = record { put = p; free = put-free (ltb 0 (c % 8) && d) c p f }
+
+  pub kept-first : c % 8 ≡ 0 → Kept out used c (only (ltb 0 (c % 8) && d) c) out used
+  kept-first e = kept (rw e (put-none f))
 
   module _ (b : Bool) (e : b ≡ d) where
-    pub kept-not : b ≡ false → m ≡ marked (only (ltb 0 (c % 8) && d) c) m
-    unfolding marked
-    kept-not t = rw (← e, t, and-false)
+    pub kept-not : b ≡ false → Kept out used c (only (ltb 0 (c % 8) && d) c) out used
+    kept-not t = kept (rw (← e, t, and-false) (put-none f))
 
-    pub kept-yes : b ≡ true → (c % 8 ≡ 0 → ⊥) → (v : ℕ) → v ≡ c → set m v 1 ≡ marked (only (ltb 0 (c % 8) && d) c) m
-    unfolding marked
-    kept-yes t h v g = rw (← e, t, lt-ltb 0 (c % 8) (omega arith), g)
+    pub kept-yes : b ≡ true → (c % 8 ≡ 0 → ⊥) → {out′ : List ℕ} {used′ : ℕ} → Put out used (c ∷ []) out′ used′ → Kept out used c (only (ltb 0 (c % 8) && d) c) out′ used′
+    kept-yes t h p = kept (rw (← e, t, lt-ltb 0 (c % 8) (omega arith)) p)
 
--- ---- likewise `mark_moved`
+-- ---- likewise `put_moved`
 
-module _ (c : ℕ) (m h : List ℕ) (last d b : Bool) (e : b ≡ d) where
-  abbrev Moved : List ℕ → List ℕ → Type 0
-  Moved m′ h′ = (m′ ≡ marked (only (d && not last) (c + 1)) m) × (h′ ≡ marked (only (d && last) (c / 8)) h)
+module _ (c : ℕ) {n k : ℕ} {next listed : List ℕ} (f : Free 1 (c + 1) next n) (g : Free 1 (c / 8) listed k) (last d b : Bool) (e : b ≡ d) where
+  pub moved-not : b ≡ false → Puts next n (only (d && not last) (c + 1)) next n listed k (only (d && last) (c / 8)) listed k
+  moved-not t = rw (← e, t) (record { cursors = put-none f; rules = put-none g })
 
-  pub moved-not : b ≡ false → Moved m h
-  unfolding marked
-  moved-not t = rw (← e, t) (refl, refl)
+  pub moved-last : b ≡ true → last ≡ true → {listed′ : List ℕ} {k′ : ℕ} → Put listed k ((c / 8) ∷ []) listed′ k′
+      → Puts next n (only (d && not last) (c + 1)) next n listed k (only (d && last) (c / 8)) listed′ k′
+  moved-last t l p = rw (← e, t, l) (record { cursors = put-none f; rules = p })
 
-  pub moved-last : b ≡ true → last ≡ true → (v : ℕ) → v ≡ c / 8 → Moved m (set h v 1)
-  unfolding marked
-  moved-last t l v g = rw (← e, t, l, g) (refl, refl)
+  pub moved-next : b ≡ true → last ≡ false → {next′ : List ℕ} {n′ : ℕ} → Put next n ((c + 1) ∷ []) next′ n′
+      → Puts next n (only (d && not last) (c + 1)) next′ n′ listed k (only (d && last) (c / 8)) listed k
+  moved-next t l p = rw (← e, t, l) (record { cursors = p; rules = put-none g })
 
-  pub moved-next : b ≡ true → last ≡ false → (v : ℕ) → v ≡ c → Moved (set m (v + 1) 1) h
-  unfolding marked
-  moved-next t l v g = rw (← e, t, l, g) (refl, refl)
+-- ---- and `put_one`: r rules, the steps of the cursor's own from `from` to `to`
 
--- a number after c has a flag
-pub next-fits : (c : ℕ) (m : List ℕ) (last : Bool) → (last ≡ false → c < 2047) → last ≡ false → (v : ℕ) → v ≡ c → length m ≡ 2048 → v + 1 < length m
-next-fits c m last h t v g l = omega (arith, h t)
+module _ (w : List ℕ) (x : Tags) {c n k : ℕ} {next listed : List ℕ} (f : Free 2 c next n) (g : Free 1 (c / 8) listed k) (r : ℕ) (rules : r ≡ rulesIn w) where
+  nothing : (leaves w x c ≡ []) × (lists w x c ≡ []) → Puts next n (leaves w x c) next n listed k (lists w x c) listed k
+  nothing e = rw (e .0, e .1) (record { cursors = put-none f; rules = put-none g })
 
--- ---- and `mark_one`: n rules, the steps of the cursor's own from `from` to `to`
+  pub past-rules : r ≤ c / 8 → Puts next n (leaves w x c) next n listed k (lists w x c) listed k
+  past-rules l = nothing (none-rule w x c (omega arith))
 
-module _ (w : List ℕ) (c n : ℕ) (rules : n ≡ rulesIn w) where
-  module _ (x : Tags) (m h : List ℕ) where
-    nothing : (leaves w x c ≡ []) × (lists w x c ≡ []) → Marked w x (c ∷ []) m h m h
-    unfolding marked
-    nothing e = record { left = rw (flatMap-one (leaves w x) c, e .0); listed = rw (flatMap-one (lists w x) c, e .1) }
+  module _ (there : c / 8 < r) (from to : ℕ) (is-from : from ≡ startOf (ruleStepEnds w) (c / 8)) (is-to : to ≡ ruleStepEnds w (c / 8)) where
+    pub past-steps : to ≤ from + c % 8 → Puts next n (leaves w x c) next n listed k (lists w x c) listed k
+    past-steps l = nothing (none-step w x c (omega arith) (omega arith))
 
-    pub past-rules : n ≤ c / 8 → Marked w x (c ∷ []) m h m h
-    past-rules l = nothing (none-rule w x c (omega arith))
-
-  module _ (there : c / 8 < n) (from to : ℕ) (is-from : from ≡ startOf (ruleStepEnds w) (c / 8)) (is-to : to ≡ ruleStepEnds w (c / 8)) where
-    pub past-steps : (x : Tags) (m h : List ℕ) → to ≤ from + c % 8 → Marked w x (c ∷ []) m h m h
-    past-steps x m h l = nothing x m h (none-step w x c (omega arith) (omega arith))
-
-    pub at-step : (x : Tags) (m h m₁ m′ h′ : List ℕ) → from + c % 8 < to
-        → m₁ ≡ marked (only (ltb 0 (c % 8) && not (eqb (endsIn w STEP-COMBINATOR STEP-WORDS (from + c % 8)) 0)) c) m
-        → (m′ ≡ marked (only (stepMatches (rowAt 8 w (stepPlace (from + c % 8))) x && not (eqb (from + c % 8 + 1) to)) (c + 1)) m₁)
-        × (h′ ≡ marked (only (stepMatches (rowAt 8 w (stepPlace (from + c % 8))) x && eqb (from + c % 8 + 1) to) (c / 8)) h)
-        → Marked w x (c ∷ []) m h m′ h′
-    at-step x m h m₁ m′ h′ l e f =
+    pub at-step : {next₁ next′ listed′ : List ℕ} {n₁ n′ k′ : ℕ} → from + c % 8 < to
+        → Kept next n c (only (ltb 0 (c % 8) && not (eqb (endsIn w STEP-COMBINATOR STEP-WORDS (from + c % 8)) 0)) c) next₁ n₁
+        → Puts next₁ n₁ (only (stepMatches (rowAt 8 w (stepPlace (from + c % 8))) x && not (eqb (from + c % 8 + 1) to)) (c + 1)) next′ n′
+        listed k (only (stepMatches (rowAt 8 w (stepPlace (from + c % 8))) x && eqb (from + c % 8 + 1) to) (c / 8)) listed′ k′
+        → Puts next n (leaves w x c) next′ n′ listed k (lists w x c) listed′ k′
+    at-step l e m =
         let (left, listed) = some-step w x c (omega arith) (omega arith) in
-        record {
-          left = rw (flatMap-one (leaves w x) c, left, ← is-from, ← is-to, marked-append, ← e) (f .0);
-          listed = rw (flatMap-one (lists w x) c, listed, ← is-from, ← is-to) (f .1);
-        }
+        rw (left, listed, ← is-from, ← is-to) (record { cursors = put-then (e .put) (m .cursors); rules = m .rules })
 
-  -- as its callees ask
-  module _ (shape : sheetShape w ≡ true) (there : c / 8 < n) where
-    pub cursor-low : c < 2048
-    cursor-low = omega (arith, shaped w shape .rules)
+-- as its callees ask
+module _ (w : List ℕ) (c n : ℕ) (rules : n ≡ rulesIn w) (shape : sheetShape w ≡ true) (there : c / 8 < n) where
+  pub cursor-low : c < 2048
+  cursor-low = omega (arith, shaped w shape .rules)
 
-    module _ (from : ℕ) (is-from : from ≡ startOf (ruleStepEnds w) (c / 8)) where
-      pub sum-fits : Fits w32 (from + c % 8)
-      sum-fits = record { fits = omega (arith, step-start-within (shaped w shape) (c / 8) (omega arith), steps-few w shape) }
+  module _ (from : ℕ) (is-from : from ≡ startOf (ruleStepEnds w) (c / 8)) where
+    pub sum-fits : Fits w32 (from + c % 8)
+    sum-fits = record { fits = omega (arith, step-start-within (shaped w shape) (c / 8) (omega arith), steps-few w shape) }
 
-      module _ (to : ℕ) (is-to : to ≡ ruleStepEnds w (c / 8)) (l : from + c % 8 < to) where
-        pub step-there : from + c % 8 < stepsIn w
-        step-there = omega (arith, rule-steps-end w shape (c / 8) (omega arith))
+    pub step-there : (to : ℕ) → to ≡ ruleStepEnds w (c / 8) → from + c % 8 < to → from + c % 8 < stepsIn w
+    step-there to is-to l = omega (arith, rule-steps-end w shape (c / 8) (omega arith))
 
-        pub next-low : eqb (from + c % 8 + 1) to ≡ false → c < 2047
-        next-low e = let short = rule-steps w shape (c / 8) (omega arith) .1 in omega (arith, shaped w shape .rules, eqb-false (from + c % 8 + 1) to e)
+-- two more have room, so one more has
+pub one-free : {a : ℕ} {out : List ℕ} {used : ℕ} → Free 2 a out used → Free 1 a out used
+one-free f = record { room = omega (arith, f .room); up = f .up; low = f .low }

@@ -1,4 +1,5 @@
-pub mod Flags
+pub mod Putting
 pub mod Cursors
+pub mod Walking
 pub mod Range
 pub mod Advanced

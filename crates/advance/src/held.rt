@@ -7,25 +7,31 @@ use selector::held::matches_row;
 use sheet::layout;
 use sheet::shape::step_place;
 ghost use mathlib.Core.Path.{_≡_};
-ghost use mathlib.Core.Bool.{true, false, _&&_, not};
+ghost use mathlib.Core.Bool.{true, false, _&&_, _||_, not};
 ghost use mathlib.Core.List.{[], _∷_};
-ghost use Prim.Native.Nat.{_+_, _/_, _%_, _≤_, _<_};
-ghost use lib.ListN.{length};
+ghost use Prim.Native.Nat.{_+_, _-_, _/_, _%_, _≤_, _<_};
+ghost use lib.ListN.{length, getD};
 ghost use lib.Dec.{ltb, eqb};
-ghost use Rattle.theory.specs.Lists.{only};
+ghost use Rattle.theory.specs.Lists.{ascends, only};
 ghost use Rattle.lent.specs.Pool.{endsIn};
-ghost use Rattle.lent.specs.Buffers.{Holds};
 ghost use Rattle.selector.specs.Tags.{stepMatches};
 ghost use Rattle.selector.specs.Rows.{rowAt};
 ghost use Rattle.selector.specs.Checks.{tagsAscend};
 ghost use Rattle.sheet.specs.Layout.{stepsIn, stepPlace, STEP-COMBINATOR, STEP-WORDS};
 ghost use Rattle.sheet.specs.Shape.{sheetShape};
-ghost use Rattle.advance.specs.Advancing.{Advanced, Marked, marked, marks};
+ghost use Rattle.advance.specs.Advancing.{leaves, lists, Advanced, Room, Free, Put, Kept, Puts, Walks, First, Turned};
 
 // How many cursors and how many rules.
 pub struct Counts {
     pub cursors: usize,
     pub matched: usize,
+}
+
+// How many cursors of the parent and of the root are done, and what that made.
+struct Done {
+    parent: usize,
+    root: usize,
+    counts: Counts,
 }
 
 // Whether a descendant combinator stands before step s.
@@ -45,92 +51,217 @@ fn passes(sheet: &[u32], s: u32, subject: &[u32]) -> bool
     matches_row(sheet, step_place(s), subject, 0)
 }
 
+// Whether a is the last of the first `used` numbers.
+fn ends_with(out: &[u32], used: usize, a: u32) -> bool
+    requires { ⌜ used ≤ length (now out) ⌝ }
+    ensures { λ r. ⌜ r ≡ (ltb 0 used && eqb (getD (now (out .entry)) (used - 1) 0) a) ⌝ }
+{
+    if used == 0 {
+        return false;
+    }
+    out[used - 1] == a
+}
+
+// a after the first `used` numbers, unless it is the last of them; how many they are then.
+fn put_new(out: &mut [u32], used: usize, a: u32) -> usize
+    requires { ⌜ Free 1 a (now out) used ⌝ }
+    ensures { λ r. ⌜ Put (now (out .entry)) used (a ∷ []) (now (out .exit)) r ⌝ }
+{
+    if ends_with(out, used, a) {
+        return used;
+    }
+    out[used] = a;
+    used + 1
+}
+
 // The cursor c at step s stays if that stands after a descendant combinator; nothing stands before a rule's first step.
-fn mark_kept(sheet: &[u32], c: u32, s: u32, marks: &mut [u8])
-    requires { ⌜ (c < 2048) × (length (now marks) ≡ 2048) ⌝ }
-    ensures { λ _. ⌜ now (marks .exit) ≡ marked (only (ltb 0 (c % 8) && not (eqb (endsIn (now (sheet .entry)) STEP-COMBINATOR STEP-WORDS s) 0)) c) (now (marks .entry)) ⌝ }
+fn put_kept(sheet: &[u32], c: u32, s: u32, next: &mut [u32], used: usize) -> usize
+    requires { ⌜ Free 2 c (now next) used ⌝ }
+    ensures { λ r. ⌜ Kept (now (next .entry)) used c (only (ltb 0 (c % 8) && not (eqb (endsIn (now (sheet .entry)) STEP-COMBINATOR STEP-WORDS s) 0)) c) (now (next .exit)) r ⌝ }
 {
     if c % 8 == 0 {
-        return;
+        return used;
     }
     if descends(sheet, s) {
-        marks[wide(c)] = 1;
+        return put_new(next, used, c);
     }
+    used
 }
 
 // A match moves the cursor on or, at the last step, lists the rule.
-fn mark_moved(
+fn put_moved(
     sheet: &[u32],
     c: u32,
     s: u32,
     last: bool,
     subject: &[u32],
-    marks: &mut [u8],
-    hits: &mut [u8],
-)
-    requires { ⌜ (sheetShape (now sheet) ≡ true) × (s < stepsIn (now sheet)) ⌝ }
+    next: &mut [u32],
+    listed: &mut [u32],
+    counts: Counts,
+) -> Counts
+    requires { ⌜ (sheetShape (now sheet) ≡ true) × (s < stepsIn (now sheet)) × (c < 2048) ⌝ }
     requires { ⌜ tagsAscend (rowAt 16 (now subject) 0) ≡ true ⌝ }
-    requires { ⌜ (c < 2048) × (last ≡ false → c < 2047) × (length (now marks) ≡ 2048) × (length (now hits) ≡ 256) ⌝ }
-    ensures { λ _. ⌜ (now (marks .exit) ≡ marked (only (stepMatches (rowAt 8 (now (sheet .entry)) (stepPlace s)) (rowAt 16 (now (subject .entry)) 0) && not last) (c + 1)) (now (marks .entry))) × (now (hits .exit) ≡ marked (only (stepMatches (rowAt 8 (now (sheet .entry)) (stepPlace s)) (rowAt 16 (now (subject .entry)) 0) && last) (c / 8)) (now (hits .entry))) ⌝ }
+    requires { ⌜ Free 1 (c + 1) (now next) (counts .cursors) ⌝ }
+    requires { ⌜ Free 1 (c / 8) (now listed) (counts .matched) ⌝ }
+    ensures { λ r. ⌜ Puts (now (next .entry)) (counts .cursors) (only (stepMatches (rowAt 8 (now (sheet .entry)) (stepPlace s)) (rowAt 16 (now (subject .entry)) 0) && not last) (c + 1)) (now (next .exit)) (r .cursors) (now (listed .entry)) (counts .matched) (only (stepMatches (rowAt 8 (now (sheet .entry)) (stepPlace s)) (rowAt 16 (now (subject .entry)) 0) && last) (c / 8)) (now (listed .exit)) (r .matched) ⌝ }
 {
+    let cursors = counts.cursors;
+    let matched = counts.matched;
     if passes(sheet, s, subject) {
         if last {
-            hits[wide(c / 8)] = 1;
-        } else {
-            marks[wide(c) + 1] = 1;
+            let more = put_new(listed, matched, c / 8);
+            return Counts {
+                cursors,
+                matched: more,
+            };
         }
+        let more = put_new(next, cursors, c + 1);
+        return Counts {
+            cursors: more,
+            matched,
+        };
     }
+    counts
 }
 
 // What the cursor c leaves and lists; nothing if it is at no step.
-fn mark_one(sheet: &[u32], c: u32, subject: &[u32], marks: &mut [u8], hits: &mut [u8])
+fn put_one(
+    sheet: &[u32],
+    c: u32,
+    subject: &[u32],
+    next: &mut [u32],
+    listed: &mut [u32],
+    counts: Counts,
+) -> Counts
     requires { ⌜ sheetShape (now sheet) ≡ true ⌝ }
     requires { ⌜ tagsAscend (rowAt 16 (now subject) 0) ≡ true ⌝ }
-    requires { ⌜ (length (now marks) ≡ 2048) × (length (now hits) ≡ 256) ⌝ }
-    ensures { λ _. ⌜ Marked (now (sheet .entry)) (rowAt 16 (now (subject .entry)) 0) (c ∷ []) (now (marks .entry)) (now (hits .entry)) (now (marks .exit)) (now (hits .exit)) ⌝ }
+    requires { ⌜ Free 2 c (now next) (counts .cursors) ⌝ }
+    requires { ⌜ Free 1 (c / 8) (now listed) (counts .matched) ⌝ }
+    ensures { λ r. ⌜ Puts (now (next .entry)) (counts .cursors) (leaves (now (sheet .entry)) (rowAt 16 (now (subject .entry)) 0) c) (now (next .exit)) (r .cursors) (now (listed .entry)) (counts .matched) (lists (now (sheet .entry)) (rowAt 16 (now (subject .entry)) 0) c) (now (listed .exit)) (r .matched) ⌝ }
 {
     let steps = layout::RULE_STEP_ENDS;
     let r = c / 8;
     if word(sheet, layout::RULES) <= r {
-        return;
+        return counts;
     }
     let s = start_of(sheet, steps, r) + c % 8;
     let end = cell(sheet, steps, r);
     if end <= s {
-        return;
+        return counts;
     }
-    mark_kept(sheet, c, s, marks);
-    mark_moved(sheet, c, s, s + 1 == end, subject, marks, hits);
+    let matched = counts.matched;
+    let cursors = put_kept(sheet, c, s, next, counts.cursors);
+    put_moved(
+        sheet,
+        c,
+        s,
+        s + 1 == end,
+        subject,
+        next,
+        listed,
+        Counts { cursors, matched },
+    )
 }
 
-fn mark_all(sheet: &[u32], cursors: &[u32], subject: &[u32], marks: &mut [u8], hits: &mut [u8])
+// The parent's next cursor, before all that are left of the root's.
+fn take_parent(
+    sheet: &[u32],
+    parent: &[u32],
+    root: &[u32],
+    subject: &[u32],
+    next: &mut [u32],
+    listed: &mut [u32],
+    done: Done,
+) -> Done
     requires { ⌜ sheetShape (now sheet) ≡ true ⌝ }
     requires { ⌜ tagsAscend (rowAt 16 (now subject) 0) ≡ true ⌝ }
-    requires { ⌜ (length (now marks) ≡ 2048) × (length (now hits) ≡ 256) ⌝ }
-    ensures { λ _. ⌜ Marked (now (sheet .entry)) (rowAt 16 (now (subject .entry)) 0) (now (cursors .entry)) (now (marks .entry)) (now (hits .entry)) (now (marks .exit)) (now (hits .exit)) ⌝ }
+    requires { ⌜ Walks (now sheet) (rowAt 16 (now subject) 0) (now parent) (now root) (now next) (now listed) (done .parent) (done .root) (done .counts .cursors) (done .counts .matched) ⌝ }
+    requires { ⌜ First (now parent) (now root) (done .parent) (done .root) ⌝ }
+    ensures { λ r. ⌜ Turned (now (sheet .entry)) (rowAt 16 (now (subject .entry)) 0) (now (parent .entry)) (now (root .entry)) (now (next .entry)) (now (listed .entry)) (done .parent) (done .root) (done .counts .cursors) (done .counts .matched) (now (next .exit)) (now (listed .exit)) (r .parent) (r .root) (r .counts .cursors) (r .counts .matched) ⌝ }
 {
-    let mut i = 0;
-    while i < cursors.len() {
-        mark_one(sheet, cursors[i], subject, marks, hits);
-        i += 1;
+    let i = done.parent;
+    let counts = put_one(sheet, parent[i], subject, next, listed, done.counts);
+    Done {
+        parent: i + 1,
+        root: done.root,
+        counts,
     }
 }
 
-// The marked places, in ascending order; how many they are.
-fn collect(flags: &[u8], out: &mut [u32]) -> usize
-    requires { ⌜ (length (now flags) ≤ 2048) × (length (now flags) ≤ length (now out)) ⌝ }
-    ensures { λ r. ⌜ Holds (marks (now (flags .entry))) (now (out .entry)) r (now (out .exit)) ⌝ }
+// The root's, before all that are left of the parent's.
+fn take_root(
+    sheet: &[u32],
+    parent: &[u32],
+    root: &[u32],
+    subject: &[u32],
+    next: &mut [u32],
+    listed: &mut [u32],
+    done: Done,
+) -> Done
+    requires { ⌜ sheetShape (now sheet) ≡ true ⌝ }
+    requires { ⌜ tagsAscend (rowAt 16 (now subject) 0) ≡ true ⌝ }
+    requires { ⌜ Walks (now sheet) (rowAt 16 (now subject) 0) (now parent) (now root) (now next) (now listed) (done .parent) (done .root) (done .counts .cursors) (done .counts .matched) ⌝ }
+    requires { ⌜ First (now root) (now parent) (done .root) (done .parent) ⌝ }
+    ensures { λ r. ⌜ Turned (now (sheet .entry)) (rowAt 16 (now (subject .entry)) 0) (now (parent .entry)) (now (root .entry)) (now (next .entry)) (now (listed .entry)) (done .parent) (done .root) (done .counts .cursors) (done .counts .matched) (now (next .exit)) (now (listed .exit)) (r .parent) (r .root) (r .counts .cursors) (r .counts .matched) ⌝ }
 {
-    let mut used = 0;
-    let mut i = 0;
-    while i < flags.len() {
-        if flags[i] == 1 {
-            out[used] = i as u32;
-            used += 1;
-        }
-        i += 1;
+    let j = done.root;
+    let counts = put_one(sheet, root[j], subject, next, listed, done.counts);
+    Done {
+        parent: done.parent,
+        root: j + 1,
+        counts,
     }
-    used
+}
+
+// The lowest of both that is left. Of equal ones the parent's is left out, and the root's comes next.
+fn turn(
+    sheet: &[u32],
+    parent: &[u32],
+    root: &[u32],
+    subject: &[u32],
+    next: &mut [u32],
+    listed: &mut [u32],
+    done: Done,
+) -> Done
+    requires { ⌜ sheetShape (now sheet) ≡ true ⌝ }
+    requires { ⌜ tagsAscend (rowAt 16 (now subject) 0) ≡ true ⌝ }
+    requires { ⌜ Walks (now sheet) (rowAt 16 (now subject) 0) (now parent) (now root) (now next) (now listed) (done .parent) (done .root) (done .counts .cursors) (done .counts .matched) ⌝ }
+    requires { ⌜ (ltb (done .parent) (length (now parent)) || ltb (done .root) (length (now root))) ≡ true ⌝ }
+    ensures { λ r. ⌜ Turned (now (sheet .entry)) (rowAt 16 (now (subject .entry)) 0) (now (parent .entry)) (now (root .entry)) (now (next .entry)) (now (listed .entry)) (done .parent) (done .root) (done .counts .cursors) (done .counts .matched) (now (next .exit)) (now (listed .exit)) (r .parent) (r .root) (r .counts .cursors) (r .counts .matched) ⌝ }
+{
+    let i = done.parent;
+    let j = done.root;
+    let counts = done.counts;
+    if root.len() <= j {
+        return take_parent(sheet, parent, root, subject, next, listed, done);
+    }
+    if parent.len() <= i {
+        return take_root(sheet, parent, root, subject, next, listed, done);
+    }
+    let a = parent[i];
+    let b = root[j];
+    if a < b {
+        return take_parent(sheet, parent, root, subject, next, listed, done);
+    }
+    if a == b {
+        let after = i + 1;
+        return Done {
+            parent: after,
+            root: j,
+            counts,
+        };
+    }
+    take_root(sheet, parent, root, subject, next, listed, done)
+}
+
+// Whether a cursor is left in one of the lists.
+fn goes_on(parent: &[u32], root: &[u32], done: Done) -> bool
+    ensures { λ r. ⌜ r ≡ (ltb (done .parent) (length (now (parent .entry))) || ltb (done .root) (length (now (root .entry)))) ⌝ }
+{
+    if done.parent < parent.len() {
+        return true;
+    }
+    done.root < root.len()
 }
 
 // The cursors and the rules of the subject's state under a parent: into `next` and `listed`.
@@ -144,14 +275,20 @@ pub fn advance(
 ) -> Counts
     requires { ⌜ sheetShape (now sheet) ≡ true ⌝ }
     requires { ⌜ tagsAscend (rowAt 16 (now subject) 0) ≡ true ⌝ }
-    requires { ⌜ (length (now next) ≡ 2048) × (length (now listed) ≡ 256) ⌝ }
+    requires { ⌜ (ascends (now parent) ≡ true) × (ascends (now root) ≡ true) ⌝ }
+    requires { ⌜ Room (now sheet) (now parent) (now root) (rowAt 16 (now subject) 0) (now next) (now listed) ⌝ }
     ensures { λ r. ⌜ Advanced (now (sheet .entry)) (now (parent .entry)) (now (root .entry)) (rowAt 16 (now (subject .entry)) 0) (now (next .entry)) (now (listed .entry)) (r .cursors) (r .matched) (now (next .exit)) (now (listed .exit)) ⌝ }
 {
-    let mut marks = [0u8; 2048];
-    let mut hits = [0u8; 256];
-    mark_all(sheet, parent, subject, &mut marks, &mut hits);
-    mark_all(sheet, root, subject, &mut marks, &mut hits);
-    let cursors = collect(&marks, next);
-    let matched = collect(&hits, listed);
-    Counts { cursors, matched }
+    let mut done = Done {
+        parent: 0,
+        root: 0,
+        counts: Counts {
+            cursors: 0,
+            matched: 0,
+        },
+    };
+    while goes_on(parent, root, done) {
+        done = turn(sheet, parent, root, subject, next, listed, done);
+    }
+    done.counts
 }

@@ -1,61 +1,52 @@
 use borrow.Author.Needs.{needs}
-use Rattle.advance.proofs.Advanced.{advanced}
+use Prim.Native.Nat.{_+_, _-_}
+use lib.ListN.{length}
+use Rattle.selector.specs.Rows.{rowAt}
+use Rattle.advance.proofs.Advanced.{Turns, turns-start, turns-next, turns-less, turns-end, goes-true}
 use Rattle.advance.proofs.held.advance.Statement.{statement}
 use Rattle.advance.proofs.held.advance.Tie as tie
 
-slice-aggregate-mark-all : tie.Need-slice-aggregate-mark-all
-slice-aggregate-mark-all c = search needs
+abbrev Inv-loop : tie.InvT-loop
+Inv-loop sheet parent root subject next₀ listed₀ done₀ next listed done = Turns sheet (rowAt 16 subject 0) parent root next₀ listed₀ next listed (done .parent) (done .root) (done .counts .cursors) (done .counts .matched)
 
-slice-aggregate-mark-all-2 : tie.Need-slice-aggregate-mark-all-2
-slice-aggregate-mark-all-2 c = search needs
+abbrev μ-loop : tie.MeasureT-loop
+μ-loop sheet parent root subject next₀ listed₀ done₀ next listed done = length parent + length root - (done .parent + done .root)
 
-mark-all-requires : tie.Need-mark-all-requires
-mark-all-requires c κs = search needs
+loop-holds : tie.Need-loop-holds Inv-loop μ-loop
+loop-holds c = search (turns-start, needs)
 
-slice-aggregate-mark-all-3 : tie.Need-slice-aggregate-mark-all-3
-slice-aggregate-mark-all-3 c = search needs
+goes-on-requires : tie.Need-goes-on-requires Inv-loop μ-loop
+goes-on-requires c κs = search needs
 
-slice-aggregate-mark-all-4 : tie.Need-slice-aggregate-mark-all-4
-slice-aggregate-mark-all-4 c = search needs
+turn-requires : tie.Need-turn-requires Inv-loop μ-loop
+turn-requires c κs = (search needs, (search needs, (search needs, search (goes-true, needs))))
 
-mark-all-requires-2 : tie.Need-mark-all-requires-2
-mark-all-requires-2 c κs = search needs
+loop-less : tie.Need-loop-less Inv-loop μ-loop
+loop-less c = search (turns-less, needs)
 
-slice-aggregate-collect : tie.Need-slice-aggregate-collect
-slice-aggregate-collect c = search needs
+loop-again : tie.Need-loop-again Inv-loop μ-loop
+loop-again c = search (turns-next, needs)
 
-collect-requires : tie.Need-collect-requires
-collect-requires c κs = search needs
-
-slice-aggregate-collect-2 : tie.Need-slice-aggregate-collect-2
-slice-aggregate-collect-2 c = search needs
-
-collect-requires-2 : tie.Need-collect-requires-2
-collect-requires-2 c κs = search needs
-
-same-length : tie.Need-same-length
+same-length : tie.Need-same-length Inv-loop μ-loop
 same-length c = search needs
 
-same-length-2 : tie.Need-same-length-2
+same-length-2 : tie.Need-same-length-2 Inv-loop μ-loop
 same-length-2 c = search needs
 
-returns : tie.Need-returns
-returns c = search (advanced, needs)
+returns : tie.Need-returns Inv-loop μ-loop
+returns c = search (turns-end, needs)
 
 pub advance-spec : {M : Type 1} → statement M
 advance-spec =
     tie.close
     (tie.spec
-    slice-aggregate-mark-all
-    slice-aggregate-mark-all-2
-    mark-all-requires
-    slice-aggregate-mark-all-3
-    slice-aggregate-mark-all-4
-    mark-all-requires-2
-    slice-aggregate-collect
-    collect-requires
-    slice-aggregate-collect-2
-    collect-requires-2
+    Inv-loop
+    μ-loop
+    loop-holds
+    goes-on-requires
+    turn-requires
+    loop-less
+    loop-again
     same-length
     same-length-2
     returns)
