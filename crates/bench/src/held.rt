@@ -40,7 +40,7 @@ pub extern "C" fn bench_held_enter(
     parent: u32,
     row: &[u32],
 ) -> u32
-    requires { ⌜ (sheetShape (now sheet) ≡ true) × (tableShape (now sheet) (table (now head) (now states) (now cursors) (now matched) (now transitions)) ≡ true) ⌝ }
+    requires { ⌜ (sheetShape (now sheet) ≡ true) × (tableShape (now sheet) (table (now head) (now states) (now cursors) (now matched) (now transitions)) ≡ true) × (parent < statesIn (now head)) ⌝ }
     requires { ⌜ (rowFits 16 (now row) 0 ≡ true) × (tagsAscend (rowAt 16 (now row) 0) ≡ true) ⌝ }
     ensures { λ r. ⌜ EntersHeld (now (sheet .entry)) (table (now (head .entry)) (now (states .entry)) (now (cursors .entry)) (now (matched .entry)) (now (transitions .entry))) parent (now (row .entry)) r (table (now (head .exit)) (now (states .exit)) (now (cursors .exit)) (now (matched .exit)) (now (transitions .exit))) ⌝ }
 {

@@ -1,48 +1,78 @@
 -- Entering in a table in shape, by each way through the code. Assumes nothing.
 use mathlib.Core.Path.{_≡_, refl, sym, ap, _∙_}
-use mathlib.Core.Bool.{Bool, true, false, cond}
+use mathlib.Core.Bool.{Bool, true, false, cond, _&&_}
 use mathlib.Core.List.{List}
-use Prim.Native.Nat.{ℕ, suc, _-_}
+use Prim.Native.Nat.{ℕ, suc, _-_, _≤_, _<_}
 use native.Mathlib.Omega.{arith}
-use lib.ListN.{take}
-use borrow.Author.Tests.{le-ltb, ne-eqb}
+use lib.ListN.{length, take}
+use lib.Dec.{leb}
+use borrow.Author.Tests.{le-ltb, le-leb, lt-leb, leb-true, ne-eqb}
+use Rattle.theory.specs.Lists.{ascends}
 use Rattle.theory.specs.States.{starts}
+use Rattle.theory.proofs.Lists.{and-left, and-right}
 use Rattle.lent.proofs.All.{all-intro}
 use Rattle.selector.specs.Tags.{Tags}
 use Rattle.selector.specs.Rows.{rowAt}
 use Rattle.selector.specs.Checks.{rowFits}
 use Rattle.sheet.specs.Shape.{sheetShape}
-use Rattle.table.specs.Tables.{table, selectorsOf, cursorsAt, stateAt, childAt, transitionsIn, subjectPlace}
+use Rattle.table.specs.Tables.{table, selectorsOf, statesIn, cursorsAt, stateAt, childAt, transitionsIn, subjectPlace}
 use Rattle.table.specs.Shape.{rootCursors, tableShape}
 use Rattle.table.specs.Entering.{cached, nextState, numberIn, lacksRoom, childOf, entered, kept}
 use Rattle.table.proofs.Same.{same-is}
 use Rattle.table.proofs.Shaped.{shaped}
-use Rattle.advance.specs.Advancing.{Advanced}
+use Rattle.advance.specs.Advancing.{Advanced, Room}
+use Rattle.advance.proofs.Range.{room-few, room-many}
 use Rattle.advance.proofs.Advanced.{advanced-state}
 use Rattle.cached.specs.Fitting.{subjectsFit}
 use Rattle.settle.specs.Settling.{state, unsettled, Settles}
 use Rattle.settle.specs.declared.Settled.{Settled}
 use Rattle.settle.specs.declared.Settled.the-variants.{At, NoRoom}
-use Rattle.matcher.specs.Answers.{Enters}
+use Rattle.matcher.specs.Answers.{Enters, Parents}
 
 -- ---- what the shape brings
 
-module _ (w h s c m tr : List ℕ) (e : (sheetShape w ≡ true) × (tableShape w (table h s c m tr) ≡ true)) where
+module _ (w h s c m tr : List ℕ) (p : ℕ) (e : (sheetShape w ≡ true) × (tableShape w (table h s c m tr) ≡ true) × (p < statesIn h)) where
   pub subjects-fit : subjectsFit tr (transitionsIn h) ≡ true
   unfolding subjectsFit
   subjects-fit =
       let fine = shaped w (table h s c m tr) (e .1) .subjects in
       all-intro (λ k. rowFits 16 tr (subjectPlace k)) (transitionsIn h) (λ k l. rw (le-ltb 16 _ (fine k l .classes), le-ltb 16 _ (fine k l .pseudos)))
 
-  pub root-there : rootCursors w s c ≡ true
+  pub parents-there : Parents w s c p
   unfolding rootCursors
-  root-there = same-is _ _ .1 (shaped w (table h s c m tr) (e .1) .root-cursors)
+  parents-there =
+      let fine = shaped w (table h s c m tr) (e .1) in
+      record { root = same-is _ _ .1 (fine .root-cursors); parent-up = fine .cursors-rise p (e .2); root-up = fine .cursors-rise 0 (fine .root) }
+
+-- ---- the two lists, as they were read: l is a, m is b
+
+pub rises-read : (l a : List ℕ) → l ≡ a → ascends a ≡ true → ascends l ≡ true
+rises-read l a e h = rw e h
+
+pub room-read : (w : List ℕ) (x : Tags) (l m a b next listed : List ℕ) → l ≡ a → m ≡ b → Room w a b x next listed → Room w l m x next listed
+room-read w x l m a b next listed e f h = rw (e, f) h
+
+-- whether both are short
+pub few-not : (l a : List ℕ) (b : Bool) → l ≡ a → 48 < length l → false ≡ (leb (length a) 48 && b)
+few-not l a b e h = rw (← e, lt-leb (length l) 48 h)
+
+pub few-last : (l a m b : List ℕ) → l ≡ a → m ≡ b → length l ≤ 48 → leb (length m) 48 ≡ (leb (length a) 48 && leb (length b) 48)
+few-last l a m b e f h = rw (← e, ← f, le-leb (length l) 48 h)
+
+pub few-both : (x y : ℕ) (b : Bool) → b ≡ (leb x 48 && leb y 48) → b ≡ true → (x ≤ 48) × (y ≤ 48)
+few-both x y b e t = let both = sym e ∙ t in (leb-true x 48 (and-left (leb x 48) _ both), leb-true y 48 (and-right (leb x 48) _ both))
+
+pub room-small : (w : List ℕ) (x : Tags) (parent top next listed : List ℕ) → (length parent ≤ 48) × (length top ≤ 48) → length next ≡ 194 → length listed ≡ 98 → Room w parent top x next listed
+room-small w x parent top next listed h e f = room-few w x parent top next listed (omega (arith, h .0, h .1)) (omega (arith, h .0, h .1))
+
+pub room-large : (w : List ℕ) (x : Tags) (parent top next listed : List ℕ) → sheetShape w ≡ true → length next ≡ 2050 → length listed ≡ 258 → Room w parent top x next listed
+room-large w x parent top next listed s e f = room-many w x parent top next listed s (omega arith) (omega arith)
 
 -- ---- the next state settled: the lists are those that were worked out
 
 pub settled-next : {w parent top : List ℕ} {x : Tags} {next listed next′ listed′ : List ℕ} {n k : ℕ} → Advanced w parent top x next listed n k next′ listed′
     → (h s c m h′ s′ c′ m′ : List ℕ) (p : ℕ) (r : Settled)
-    → rootCursors w s c ≡ true
+    → Parents w s c p
     → parent ≡ cursorsAt s c p
     → top ≡ cursorsAt s c 0
     → ((t : List ℕ) → Settles (table h s c m t) (state (take n next′) (take k listed′)) r (table h′ s′ c′ m′ t))
@@ -50,7 +80,7 @@ pub settled-next : {w parent top : List ℕ} {x : Tags} {next listed next′ lis
     → Settles (table h s c m t) (nextState w (table h s c m t) p x) r (table h′ s′ c′ m′ t)
 unfolding rootCursors
 settled-next {w} a h s c m h′ s′ c′ m′ p r q e f u t =
-    let g = advanced-state a (stateAt (table h s c m t) p) e (f ∙ same-is (cursorsAt s c 0) (starts 0 (selectorsOf w)) .0 q) in
+    let g = advanced-state a (stateAt (table h s c m t) p) e (f ∙ same-is (cursorsAt s c 0) (starts 0 (selectorsOf w)) .0 (q .root)) in
     rw g at (u t)
 
 -- ---- what is told where a state stands

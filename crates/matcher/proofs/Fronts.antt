@@ -2,17 +2,18 @@
 use mathlib.Core.Path.{_≡_, refl, sym, _∙_}
 use mathlib.Core.Bool.{Bool, true, false, not}
 use mathlib.Core.List.{List, [], _∷_}
-use Prim.Native.Nat.{ℕ}
+use Prim.Native.Nat.{ℕ, _<_}
 use native.Mathlib.Omega.{arith}
-use borrow.Author.Tests.{ne-eqb, not-true, not-false}
-use Rattle.theory.proofs.Lists.{and-left, and-right}
+use lib.Dec.{eqb}
+use borrow.Author.Tests.{ne-eqb, ltb-true, not-true, not-false}
+use Rattle.theory.proofs.Lists.{and-left, and-right, or-second}
 use Rattle.lent.specs.Refusals.{refusalOf, Check, check, firstOf}
 use Rattle.lent.specs.declared.Refusal.{Refusal}
 use Rattle.lent.proofs.Refusals.{first-stop, first-go, first-clear, told-first}
 use Rattle.selector.specs.Rows.{rowAt}
 use Rattle.selector.specs.Checks.{rowFits, tagsAscend}
 use Rattle.sheet.specs.Shape.{sheetShape}
-use Rattle.table.specs.Tables.{Table, table}
+use Rattle.table.specs.Tables.{Table, table, statesIn, stampIn}
 use Rattle.table.specs.Shape.{tableShape}
 use Rattle.table.specs.Entering.{lacksRoom, childOf}
 use Rattle.table.specs.Calls.{broken, notAState, stateVerdict, enterVerdict}
@@ -90,12 +91,12 @@ pub ruleset fronts = (front-state, front-over, front-unsorted, front-fine, not-t
 
 -- where none of the four counts, what the rest relies on is there
 pub front-passed : (w h s c m tr : List ℕ) (number stamp : ℕ) (row : List ℕ) (v : ℕ) → v ≡ frontVerdict w (table h s c m tr) number stamp row → v ≡ 0
-    → ((sheetShape w ≡ true) × (tableShape w (table h s c m tr) ≡ true)) × ((rowFits 16 row 0 ≡ true) × (tagsAscend (rowAt 16 row 0) ≡ true))
-unfolding frontVerdict broken
+    → ((sheetShape w ≡ true) × (tableShape w (table h s c m tr) ≡ true) × (number < statesIn h)) × ((rowFits 16 row 0 ≡ true) × (tagsAscend (rowAt 16 row 0) ≡ true))
+unfolding frontVerdict broken notAState
 front-passed w h s c m tr number stamp row v e z =
     let (a, f) = first-clear 11 (broken w (table h s c m tr)) _ (omega arith) (sym e ∙ z) in
-    let (_, g) = first-clear 4 (notAState h number stamp) _ (omega arith) f in
+    let (n, g) = first-clear 4 (notAState h number stamp) _ (omega arith) f in
     let (b, i) = first-clear 2 (not (rowFits 16 row 0)) _ (omega arith) g in
     let (d, _) = first-clear 1 (not (tagsAscend (rowAt 16 row 0))) [] (omega arith) i in
     let fine = not-false _ a in
-    ((and-left (sheetShape w) _ fine, and-right (sheetShape w) _ fine), (not-false _ b, not-false _ d))
+    ((and-left (sheetShape w) _ fine, and-right (sheetShape w) _ fine, ltb-true number (statesIn h) (not-false _ (or-second (not (eqb stamp (stampIn h))) _ n))), (not-false _ b, not-false _ d))

@@ -1,17 +1,19 @@
 -- What the calls on a table answer, and the memory with it. Assumes nothing.
 use mathlib.Core.Path.{_≡_}
-use mathlib.Core.Bool.{cond, not}
+use mathlib.Core.Bool.{true, cond, not}
 use mathlib.Core.List.{List, [], _∷_}
 use Prim.Native.Nat.{ℕ, _+_, _*_}
 use lib.Dec.{eqb}
 use denote.Ref.{RefT}
+use Rattle.theory.specs.Lists.{ascends}
 use Rattle.lent.specs.Pool.{startOf}
 use Rattle.lent.specs.Refusals.{told, answered, check, firstOf}
 use Rattle.selector.specs.Rows.{rowAt}
 use Rattle.selector.specs.Checks.{rowFits, tagsAscend}
 use Rattle.settle.specs.declared.Settled.{Settled}
 use Rattle.settle.specs.declared.Settled.the-variants.{At, NoRoom}
-use Rattle.table.specs.Tables.{Table, matchedEnds, matchedAt}
+use Rattle.table.specs.Tables.{Table, cursorsAt, matchedEnds, matchedAt}
+use Rattle.table.specs.Shape.{rootCursors}
 use Rattle.table.specs.Entering.{built, lacksRoom, childOf, entered}
 use Rattle.table.specs.Calls.{broken, notAState, stateVerdict, buildVerdict, enterVerdict}
 use Rattle.matcher.specs.declared.Building.{Building}
@@ -57,6 +59,12 @@ pub record Rules (w : List ℕ) (t : Table) (number stamp : ℕ) (whole part : R
   pub place : part .ptr .1 ≡ whole .ptr .1 + 4 * cond (eqb (stateVerdict w t number stamp) 0) (startOf (matchedEnds (t .states)) number) 0
 
 -- ---- within: entering without the first four refusals, and these alone
+
+-- what working out the next state relies on: the root's cursors are those of build, and the parent's and the root's ascend
+pub record Parents (w states cursors : List ℕ) (parent : ℕ) : Type 0 where
+  pub root : rootCursors w states cursors ≡ true
+  pub parent-up : ascends (cursorsAt states cursors parent) ≡ true
+  pub root-up : ascends (cursorsAt states cursors 0) ≡ true
 
 pub record Enters (w : List ℕ) (t : Table) (parent : ℕ) (row : List ℕ) (r : Settled) (t′ : Table) : Type 0 where
   pub answer : r ≡ cond (lacksRoom w t parent row) NoRoom (At (childOf w t parent row))

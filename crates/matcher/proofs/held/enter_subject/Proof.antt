@@ -1,10 +1,10 @@
 use borrow.Author.Needs.{needs}
-use Rattle.matcher.proofs.Entered.{subjects-fit, root-there, entered-cached, entered-new, entered-none}
+use Rattle.matcher.proofs.Entered.{subjects-fit, parents-there, entered-cached, entered-new, entered-none}
 use Rattle.matcher.proofs.held.enter_subject.Statement.{statement}
 use Rattle.matcher.proofs.held.enter_subject.Tie as tie
 
 cached-requires : tie.Need-cached-requires
-cached-requires c κs = let q = c .before .before .before .before .before .before .before .before .before .before .pre in (subjects-fit _ _ _ _ _ _ (q .0), q .1 .0)
+cached-requires c κs = let q = c .before .before .before .before .before .before .before .before .before .before .pre in (subjects-fit _ _ _ _ _ _ _ (q .0), q .1 .0)
 
 sub-cell : tie.Need-sub-cell
 sub-cell c = search needs
@@ -25,7 +25,7 @@ returns : tie.Need-returns
 returns c = search (entered-cached, needs)
 
 settle-next-requires : tie.Need-settle-next-requires
-settle-next-requires c κs = let q = c .before .before .before .before .before .before .before .before .before .before .before .before .before .before .before .before .pre in ((q .0 .0, root-there _ _ _ _ _ _ (q .0)), q .1 .1)
+settle-next-requires c κs = let q = c .before .before .before .before .before .before .before .before .before .before .before .before .before .before .before .before .pre in ((q .0 .0, parents-there _ _ _ _ _ _ _ (q .0)), q .1 .1)
 
 enum-known-settled : tie.Need-enum-known-settled
 enum-known-settled c = search needs
