@@ -1,25 +1,17 @@
 -- Equal subjects, by each way through the code. Assumes nothing.
-use mathlib.Core.Path.{_≡_, refl, sym, _∙_}
-use mathlib.Core.Bool.{Bool, true, false, _&&_, not, cond, and-assoc}
+use mathlib.Core.Path.{_≡_, refl, sym, ap, _∙_}
+use mathlib.Core.Bool.{Bool, true, false, _&&_, cond, and-assoc, true≢false}
 use mathlib.Core.Option.{none, some}
 use mathlib.Core.List.{List}
-use Prim.Native.Nat.{ℕ, _+_, _≤_}
-use native.Mathlib.Nat.{zero-add}
-use lib.ListN.{length, getD, take}
-use lib.Seq.{sets, sets-eq, take-at}
-use lib.Dec.{eqb, ltb}
-use lib.IntN.{ℤ}
-use mir.Syntax.{w32}
-use mir.Val.{ofZ}
-use borrow.Author.Tests.{eq-eqb, ne-eqb, ltb-false, not-true}
-use Rattle.theory.specs.Lists.{compare}
-use Rattle.theory.proofs.Lists.{and-left, and-right}
+use Prim.Native.Nat.{ℕ, _+_}
+use lib.ListN.{length, getD}
+use lib.Dec.{eqb}
+use borrow.Author.Tests.{eq-eqb, ne-eqb}
+use Rattle.theory.proofs.Lists.{bool-ext}
 use Rattle.selector.specs.Rows.{rowAt, tagOf, wordsFrom}
-use Rattle.selector.specs.Checks.{rowFits}
-use Rattle.selector.proofs.RowLaws.{words-few}
 use Rattle.table.specs.Shape.{same}
 use Rattle.table.specs.Entering.{sameTag, sameSubject}
-use Rattle.table.proofs.Same.{same-told}
+use Rattle.table.proofs.Same.{same-is}
 
 -- ---- a tag
 
@@ -42,26 +34,8 @@ module _ (flag tag flag′ tag′ : ℕ) where
 
 -- ---- ids
 
--- a row's classes are few, and so are its pseudos
-module _ (words l : List ℕ) (at from : ℕ) (f : rowFits 16 words at ≡ true) where
-  pub classes-few : l ≡ wordsFrom words from (getD words (at + 4) 0) → length l ≤ 16
-  classes-few e = words-few 16 words l from (getD words (at + 4) 0) e (ltb-false 16 _ (not-true _ (and-left _ _ f)))
-
-  pub pseudos-few : l ≡ wordsFrom words from (getD words (at + 5) 0) → length l ≤ 16
-  pseudos-few e = words-few 16 words l from (getD words (at + 5) 0) e (ltb-false 16 _ (not-true _ (and-right (not (ltb 16 (getD words (at + 4) 0))) _ f)))
-
--- the lists that stand in two buffers are told from each other as they are
-pub copies-told : (l m a b a₀ b₀ : List ℕ) (z : ℤ)
-    → a ≡ sets a₀ 0 l
-    → b ≡ sets b₀ 0 m
-    → z ≡ compare (take (length l) a) (take (length m) b)
-    → length l ≤ length a₀
-    → length m ≤ length b₀
-    → eqb (ofZ w32 z) 0 ≡ same l m
-copies-told l m a b a₀ b₀ z e f k g h = same-told l m z (rw (e, f, copied l a₀ g, copied m b₀ h) at k)
-  where
-    copied : (l d : List ℕ) → length l ≤ length d → take (length l) (sets d 0 l) ≡ l
-    copied l d h = rw (sets-eq l d 0 (rw zero-add h)) (take-at l _ (length l) refl)
+pub lengths-differ : (l m : List ℕ) → (length l ≡ length m → ⊥) → false ≡ same l m
+lengths-differ l m h = bool-ext false (same l m) (λ e. absurd (true≢false (sym e))) (λ e. absurd (h (ap length (same-is l m .0 e))))
 
 -- ---- the rows: what `word` read of each, and what `same_tag` said
 

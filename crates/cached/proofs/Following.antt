@@ -7,7 +7,6 @@ use native.Mathlib.Omega.{arith}
 use Rattle.selector.specs.Tags.{Tags}
 use Rattle.table.specs.Tables.{transitionsIn, firstLink, nextLink}
 use Rattle.table.specs.Entering.{leads, isHit, cachedFrom, cached}
-use Rattle.cached.specs.Fitting.{subjectsFit}
 
 -- what is left of the chain answers for the whole
 pub record Following (transitions : List ℕ) (count p : ℕ) (x : Tags) (first l left : ℕ) : Type 0 where
@@ -40,9 +39,6 @@ pub ruleset following = (follow-start, follow-end, follow-none, follow-hit, foll
 
 -- the parent's own chain, over the head's count
 module _ (head states transitions : List ℕ) (p count : ℕ) (e : count ≡ transitionsIn head) where
-  pub count-fits : subjectsFit transitions (transitionsIn head) ≡ true → subjectsFit transitions count ≡ true
-  count-fits h = rw e h
-
   pub cached-is : (x : Tags) (first r : ℕ) → first ≡ firstLink states p → r ≡ cachedFrom transitions count p x first count → r ≡ cached head states transitions p x
   unfolding cached
   cached-is x first r f g = rw (e, f) at g

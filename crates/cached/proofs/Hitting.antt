@@ -1,13 +1,12 @@
 -- A transition of a parent and a subject: where its subject stands, and the ways through `is_hit`. Assumes nothing.
 use mathlib.Core.Path.{_≡_}
-use mathlib.Core.Bool.{Bool, true, false}
+use mathlib.Core.Bool.{Bool, false}
 use mathlib.Core.List.{List}
 use Prim.Native.Nat.{ℕ, _+_, _*_, _<_}
 use native.Mathlib.Omega.{arith}
 use borrow.Author.Tests.{eq-eqb, ne-eqb}
 use Rattle.selector.specs.Tags.{Tags}
 use Rattle.selector.specs.Rows.{rowAt}
-use Rattle.selector.specs.Checks.{rowFits}
 use Rattle.table.specs.Tables.{parentAt, subjectPlace}
 use Rattle.table.specs.Entering.{sameSubject, isHit}
 
@@ -18,9 +17,6 @@ module _ (base stride row k : ℕ) (e : base ≡ 3) (f : stride ≡ 41) (g : row
 
   pub place-low : k < 4294967296 → base + stride * row < 999999999000
   place-low h = rw place-is (omega arith)
-
-  pub place-fits : (transitions : List ℕ) → rowFits 16 transitions (subjectPlace k) ≡ true → rowFits 16 transitions (base + stride * row) ≡ true
-  place-fits transitions h = rw place-is h
 
   pub hit-subject : (transitions : List ℕ) (p v : ℕ) (x : Tags) (r : Bool)
       → v ≡ parentAt transitions k

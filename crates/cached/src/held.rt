@@ -1,21 +1,17 @@
-// For callers that hold the table to its shape already.
+// Nothing is required of the table: along whatever chain its words say.
 use lent::lists::cell;
 use lent::lists::part;
 use lent::sets::compare;
-use lent::words::copy_into;
 use lent::words::wide;
 use lent::words::word;
 use table::layout;
 ghost use mathlib.Core.Path.{_≡_};
-ghost use mathlib.Core.Bool.{true, _&&_};
-ghost use Prim.Native.Nat.{_≤_, _<_};
-ghost use lib.ListN.{length, getD};
+ghost use mathlib.Core.Bool.{_&&_};
+ghost use Prim.Native.Nat.{_<_};
+ghost use lib.ListN.{getD};
 ghost use Rattle.selector.specs.Rows.{rowAt, tagOf, wordsFrom};
-ghost use Rattle.selector.specs.Checks.{rowFits};
-ghost use Rattle.table.specs.Tables.{transitionsIn, subjectPlace};
 ghost use Rattle.table.specs.Shape.{same};
 ghost use Rattle.table.specs.Entering.{sameTag, sameSubject, leads, isHit, cachedFrom, cached};
-ghost use Rattle.cached.specs.Fitting.{subjectsFit};
 
 // ---- equal subjects
 
@@ -53,16 +49,14 @@ fn same_tags(words: &[u32], at: usize, row: &[u32]) -> bool
     )
 }
 
-// Both lists are copied, and the copies compared.
-fn same_ids(ids: &[u32], others: &[u32]) -> bool
-    requires { ⌜ (length (now ids) ≤ 16) × (length (now others) ≤ 16) ⌝ }
-    ensures { λ r. ⌜ r ≡ same (now (ids .entry)) (now (others .entry)) ⌝ }
+// Lists of different lengths are not looked into.
+pub fn same_lists(list: &[u32], other: &[u32]) -> bool
+    ensures { λ r. ⌜ r ≡ same (now (list .entry)) (now (other .entry)) ⌝ }
 {
-    let mut a = [0u32; 16];
-    let mut b = [0u32; 16];
-    copy_into(&mut a, 0, ids);
-    copy_into(&mut b, 0, others);
-    compare(&a[..ids.len()], &b[..others.len()]) == 0
+    if list.len() != other.len() {
+        return false;
+    }
+    compare(list, other) == 0
 }
 
 // The ids of a row: from word `at` on, as many as the word at `count` says.
@@ -76,16 +70,15 @@ fn ids<'a>(words: &'a [u32], at: usize, count: usize) -> &'a [u32]
 // Whether the subject whose row begins at word `at` is the one of the other row.
 fn same_subject(words: &[u32], at: usize, row: &[u32]) -> bool
     requires { ⌜ at < 999999999000 ⌝ }
-    requires { ⌜ (rowFits 16 (now words) at ≡ true) × (rowFits 16 (now row) 0 ≡ true) ⌝ }
     ensures { λ r. ⌜ r ≡ sameSubject (rowAt 16 (now (words .entry)) at) (rowAt 16 (now (row .entry)) 0) ⌝ }
 {
     if !same_tags(words, at, row) {
         return false;
     }
-    if !same_ids(ids(words, at + 6, at + 4), ids(row, 6, 4)) {
+    if !same_lists(ids(words, at + 6, at + 4), ids(row, 6, 4)) {
         return false;
     }
-    same_ids(ids(words, at + 22, at + 5), ids(row, 22, 5))
+    same_lists(ids(words, at + 22, at + 5), ids(row, 22, 5))
 }
 
 // ---- along a chain
@@ -102,7 +95,6 @@ pub fn leads(count: u32, link: u32) -> bool
 
 // Whether transition k is of this parent and subject.
 fn is_hit(transitions: &[u32], parent: u32, row: &[u32], k: u32) -> bool
-    requires { ⌜ (rowFits 16 (now transitions) (subjectPlace k) ≡ true) × (rowFits 16 (now row) 0 ≡ true) ⌝ }
     ensures { λ r. ⌜ r ≡ isHit (now (transitions .entry)) parent (rowAt 16 (now (row .entry)) 0) k ⌝ }
 {
     let parents = layout::PARENTS;
@@ -115,7 +107,6 @@ fn is_hit(transitions: &[u32], parent: u32, row: &[u32], k: u32) -> bool
 
 // The first link along the chain to a transition of this parent and subject; 0 for none.
 fn cached_from(transitions: &[u32], count: u32, parent: u32, row: &[u32], first: u32) -> u32
-    requires { ⌜ (subjectsFit (now transitions) count ≡ true) × (rowFits 16 (now row) 0 ≡ true) ⌝ }
     ensures { λ r. ⌜ r ≡ cachedFrom (now (transitions .entry)) count parent (rowAt 16 (now (row .entry)) 0) first count ⌝ }
 {
     let links = layout::NEXT_LINKS;
@@ -136,7 +127,6 @@ fn cached_from(transitions: &[u32], count: u32, parent: u32, row: &[u32], first:
 
 // The link to the cached transition of this parent and subject; 0 for none.
 pub fn cached(head: &[u32], states: &[u32], transitions: &[u32], parent: u32, row: &[u32]) -> u32
-    requires { ⌜ (subjectsFit (now transitions) (transitionsIn (now head)) ≡ true) × (rowFits 16 (now row) 0 ≡ true) ⌝ }
     ensures { λ r. ⌜ r ≡ cached (now (head .entry)) (now (states .entry)) (now (transitions .entry)) parent (rowAt 16 (now (row .entry)) 0) ⌝ }
 {
     let firsts = layout::FIRST_LINKS;

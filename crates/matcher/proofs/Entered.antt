@@ -6,16 +6,14 @@ use Prim.Native.Nat.{ℕ, suc, _-_, _≤_, _<_}
 use native.Mathlib.Omega.{arith}
 use lib.ListN.{length, take}
 use lib.Dec.{leb}
-use borrow.Author.Tests.{le-ltb, le-leb, lt-leb, leb-true, ne-eqb}
+use borrow.Author.Tests.{le-leb, lt-leb, leb-true, ne-eqb}
 use Rattle.theory.specs.Lists.{ascends}
 use Rattle.theory.specs.States.{starts}
 use Rattle.theory.proofs.Lists.{and-left, and-right}
-use Rattle.lent.proofs.All.{all-intro}
 use Rattle.selector.specs.Tags.{Tags}
 use Rattle.selector.specs.Rows.{rowAt}
-use Rattle.selector.specs.Checks.{rowFits}
 use Rattle.sheet.specs.Shape.{sheetShape}
-use Rattle.table.specs.Tables.{table, selectorsOf, statesIn, cursorsAt, stateAt, childAt, transitionsIn, subjectPlace}
+use Rattle.table.specs.Tables.{table, selectorsOf, statesIn, cursorsAt, stateAt, childAt}
 use Rattle.table.specs.Shape.{rootCursors, tableShape}
 use Rattle.table.specs.Entering.{cached, nextState, numberIn, lacksRoom, childOf, entered, kept}
 use Rattle.table.proofs.Same.{same-is}
@@ -23,7 +21,6 @@ use Rattle.table.proofs.Shaped.{shaped}
 use Rattle.advance.specs.Advancing.{Advanced, Room}
 use Rattle.advance.proofs.Range.{room-few, room-many}
 use Rattle.advance.proofs.Advanced.{advanced-state}
-use Rattle.cached.specs.Fitting.{subjectsFit}
 use Rattle.settle.specs.Settling.{state, unsettled, Settles}
 use Rattle.settle.specs.declared.Settled.{Settled}
 use Rattle.settle.specs.declared.Settled.the-variants.{At, NoRoom}
@@ -32,12 +29,6 @@ use Rattle.matcher.specs.Answers.{Enters, Parents}
 -- ---- what the shape brings
 
 module _ (w h s c m tr : List ℕ) (p : ℕ) (e : (sheetShape w ≡ true) × (tableShape w (table h s c m tr) ≡ true) × (p < statesIn h)) where
-  pub subjects-fit : subjectsFit tr (transitionsIn h) ≡ true
-  unfolding subjectsFit
-  subjects-fit =
-      let fine = shaped w (table h s c m tr) (e .1) .subjects in
-      all-intro (λ k. rowFits 16 tr (subjectPlace k)) (transitionsIn h) (λ k l. rw (le-ltb 16 _ (fine k l .classes), le-ltb 16 _ (fine k l .pseudos)))
-
   pub parents-there : Parents w s c p
   unfolding rootCursors
   parents-there =

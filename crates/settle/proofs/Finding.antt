@@ -4,28 +4,22 @@ use mathlib.Core.Bool.{Bool, true, false, cond}
 use mathlib.Core.List.{List}
 use Prim.Native.Nat.{ℕ, suc, _+_, _-_, _≤_, _<_}
 use native.Mathlib.Omega.{arith}
-use lib.IntN.{ℤ}
-use lib.Dec.{eqb}
-use mir.Syntax.{w32}
-use mir.Val.{ofZ}
-use borrow.Author.Tests.{eq-eqb, ne-eqb}
-use Rattle.theory.specs.Lists.{compare}
 use Rattle.theory.specs.States.{State}
 use Rattle.table.specs.Tables.{cursorsAt, matchedAt}
+use Rattle.table.specs.Shape.{same}
 use Rattle.table.specs.Entering.{firstFrom, isState, numberFor}
-use Rattle.table.proofs.Same.{same-told}
 use Rattle.settle.specs.Settling.{state}
 
 -- ---- one state
 
-module _ (s c m nc nm : List ℕ) (k : ℕ) (lc : List ℕ) (z : ℤ) (el : lc ≡ cursorsAt s c k) (ez : z ≡ compare lc nc) where
-  pub other-cursors : (ofZ w32 z ≡ 0 → ⊥) → false ≡ isState s c m (state nc nm) k
+module _ (s c m nc nm : List ℕ) (k : ℕ) (lc : List ℕ) (a : Bool) (el : lc ≡ cursorsAt s c k) (ea : a ≡ same lc nc) where
+  pub other-cursors : a ≡ false → false ≡ isState s c m (state nc nm) k
   unfolding isState
-  other-cursors h = rw (← el, ← same-told lc nc z ez, ne-eqb (ofZ w32 z) 0 h)
+  other-cursors h = rw (← el, ← ea, h)
 
-  pub same-cursors : (lm : List ℕ) (y : ℤ) → ofZ w32 z ≡ 0 → lm ≡ matchedAt s m k → y ≡ compare lm nm → eqb (ofZ w32 y) 0 ≡ isState s c m (state nc nm) k
+  pub same-cursors : (lm : List ℕ) (b : Bool) → a ≡ true → lm ≡ matchedAt s m k → b ≡ same lm nm → b ≡ isState s c m (state nc nm) k
   unfolding isState
-  same-cursors lm y h f ey = rw (← el, ← same-told lc nc z ez, eq-eqb (ofZ w32 z) 0 h, ← f) (same-told lm nm y ey)
+  same-cursors lm b h f eb = rw (← el, ← ea, h, ← f) eb
 
 -- ---- the first
 

@@ -1,10 +1,10 @@
 // What entering writes. Nothing is required of the table: a caller that did not test its shape gets what its words say.
 use crate::Settled;
 use cached::held::leads;
+use cached::held::same_lists;
 use lent::lists::address;
 use lent::lists::cell;
 use lent::lists::list_of;
-use lent::sets::compare;
 use lent::words::copy_into;
 use lent::words::put;
 use lent::words::wide;
@@ -33,10 +33,10 @@ fn is_state(
 {
     let cursor_ends = layout::CURSOR_ENDS;
     let matched_ends = layout::MATCHED_ENDS;
-    if compare(list_of(states, cursor_ends, cursors, k), next) != 0 {
+    if !same_lists(list_of(states, cursor_ends, cursors, k), next) {
         return false;
     }
-    compare(list_of(states, matched_ends, matched, k), listed) == 0
+    same_lists(list_of(states, matched_ends, matched, k), listed)
 }
 
 // The first of n states with these lists; n if there is none.

@@ -1,5 +1,5 @@
 use borrow.Author.Needs.{needs}
-use Rattle.cached.proofs.Following.{count-fits, cached-is}
+use Rattle.cached.proofs.Following.{cached-is}
 use Rattle.cached.proofs.held.cached.Statement.{statement}
 use Rattle.cached.proofs.held.cached.Tie as tie
 
@@ -10,7 +10,7 @@ cell-requires : tie.Need-cell-requires
 cell-requires c κs = search needs
 
 cached-from-requires : tie.Need-cached-from-requires
-cached-from-requires c κs = (search (count-fits, needs), search needs)
+cached-from-requires c κs = search needs
 
 returns : tie.Need-returns
 returns c = search (cached-is, needs)

@@ -2,7 +2,6 @@ use borrow.Author.Needs.{needs}
 use borrow.Author.Tests.{not-true, not-false}
 use Rattle.selector.specs.Rows.{rowAt}
 use Rattle.table.proofs.Chains.{leads-some}
-use Rattle.cached.proofs.Leading.{leads-fits}
 use Rattle.cached.proofs.Following.{Following, following}
 use Rattle.cached.proofs.held.cached_from.Statement.{statement}
 use Rattle.cached.proofs.held.cached_from.Tie as tie
@@ -26,7 +25,7 @@ sub-is-hit : tie.Need-sub-is-hit Inv-loop μ-loop
 sub-is-hit c = search (leads-some, not-false, needs)
 
 is-hit-requires : tie.Need-is-hit-requires Inv-loop μ-loop
-is-hit-requires c κs = (search (leads-fits, not-false, needs), search needs)
+is-hit-requires c κs = search needs
 
 returns-2 : tie.Need-returns-2 Inv-loop μ-loop
 returns-2 c = search (following, not-false, needs)

@@ -1,7 +1,7 @@
 use native.Mathlib.Omega.{arith}
 use borrow.Author.Needs.{needs}
 use Rattle.lent.proofs.Pool.{stride-fits, address-fits}
-use Rattle.cached.proofs.Hitting.{place-low, place-fits, hit-subject, hit-other}
+use Rattle.cached.proofs.Hitting.{place-low, hit-subject, hit-other}
 use Rattle.cached.proofs.held.is_hit.Statement.{statement}
 use Rattle.cached.proofs.held.is_hit.Tie as tie
 
@@ -27,7 +27,7 @@ add-at : tie.Need-add-at
 add-at c = address-fits _ _ _ (omega arith) (omega arith) (omega arith)
 
 same-subject-requires : tie.Need-same-subject-requires
-same-subject-requires c κs = (search (place-low, needs), (search (place-fits, needs), search needs))
+same-subject-requires c κs = search (place-low, needs)
 
 returns-2 : tie.Need-returns-2
 returns-2 c = search (hit-subject, needs)

@@ -1,6 +1,6 @@
 use borrow.Author.Needs.{needs}
 use borrow.Author.Tests.{not-true, not-false}
-use Rattle.cached.proofs.Alike.{classes-few, pseudos-few, tags-differ, classes-differ, pseudos-decide}
+use Rattle.cached.proofs.Alike.{tags-differ, classes-differ, pseudos-decide}
 use Rattle.cached.proofs.held.same_subject.Statement.{statement}
 use Rattle.cached.proofs.held.same_subject.Tie as tie
 
@@ -22,8 +22,8 @@ ids-requires c κs = search needs
 ids-requires-2 : tie.Need-ids-requires-2
 ids-requires-2 c κs = search needs
 
-same-ids-requires : tie.Need-same-ids-requires
-same-ids-requires c κs = (search (classes-few, needs), search (classes-few, needs))
+same-lists-requires : tie.Need-same-lists-requires
+same-lists-requires c κs = search needs
 
 returns-2 : tie.Need-returns-2
 returns-2 c = search (classes-differ, not-true, not-false, needs)
@@ -40,8 +40,8 @@ ids-requires-3 c κs = search needs
 ids-requires-4 : tie.Need-ids-requires-4
 ids-requires-4 c κs = search needs
 
-same-ids-requires-2 : tie.Need-same-ids-requires-2
-same-ids-requires-2 c κs = (search (pseudos-few, needs), search (pseudos-few, needs))
+same-lists-requires-2 : tie.Need-same-lists-requires-2
+same-lists-requires-2 c κs = search needs
 
 returns-3 : tie.Need-returns-3
 returns-3 c = search (pseudos-decide, not-false, needs)
@@ -56,11 +56,11 @@ same-subject-spec =
     add-ids-2
     ids-requires
     ids-requires-2
-    same-ids-requires
+    same-lists-requires
     returns-2
     add-ids-3
     add-ids-4
     ids-requires-3
     ids-requires-4
-    same-ids-requires-2
+    same-lists-requires-2
     returns-3)

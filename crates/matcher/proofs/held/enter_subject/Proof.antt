@@ -1,10 +1,10 @@
 use borrow.Author.Needs.{needs}
-use Rattle.matcher.proofs.Entered.{subjects-fit, parents-there, entered-cached, entered-new, entered-none}
+use Rattle.matcher.proofs.Entered.{parents-there, entered-cached, entered-new, entered-none}
 use Rattle.matcher.proofs.held.enter_subject.Statement.{statement}
 use Rattle.matcher.proofs.held.enter_subject.Tie as tie
 
 cached-requires : tie.Need-cached-requires
-cached-requires c κs = let q = c .before .before .before .before .before .before .before .before .before .before .pre in (subjects-fit _ _ _ _ _ _ _ (q .0), q .1 .0)
+cached-requires c κs = search needs
 
 sub-cell : tie.Need-sub-cell
 sub-cell c = search needs
