@@ -1,2 +1,2 @@
-// Entering a subject: which cursors and rules arise, marked in flags and collected in ascending order.
+// Entering a subject: which cursors and rules arise, put in ascending order by one walk over the two lists.
 pub mod held;
