@@ -27,6 +27,13 @@ sheet-there w b e f = sym e ∙ f
 pub roots-few : {l d e : List ℕ} {n : ℕ} → Holds l d n e → length (take n e) ≡ n
 roots-few h = rw (held-take h) (sym (h .count))
 
+-- what is written once the roots are collected
+pub root-built : (w : List ℕ) (stamp ranking : ℕ) (h s c d l : List ℕ) (n : ℕ) → Holds (rootsOf w) d n l → (h′ s′ c′ : List ℕ)
+    → (h′ ≡ builtHead h stamp ranking (length (take n l))) × (s′ ≡ sets s 0 (length (take n l) ∷ 0 ∷ 0 ∷ [])) × (c′ ≡ sets c 0 (take n l))
+    → (m t : List ℕ) → table h′ s′ c′ m t ≡ built w stamp ranking (table h s c m t)
+unfolding built
+root-built w stamp ranking h s c d l n q h′ s′ c′ (x, y, z) m t = rw (x, y, z, held-take q)
+
 module _ (w : List ℕ) (stamp ranking : ℕ) (h s c m t : List ℕ) where
   turned : (x : Refusal) (v : ℕ) → buildVerdict w ranking s c ≡ v → (v ≡ 0 → ⊥) → told x ≡ v ∷ [] → Build w stamp ranking (table h s c m t) (Refused x) (table h s c m t)
   turned x v e z q = record { answer = rw (e, ne-eqb v 0 z) q; memory = rw (e, ne-eqb v 0 z) }
@@ -54,7 +61,7 @@ module _ (w : List ℕ) (stamp ranking : ℕ) (h s c m t : List ℕ) where
           pub build-built : n ≤ length c → (h′ s′ c′ : List ℕ)
               → (h′ ≡ builtHead h stamp ranking (length (take n l))) × (s′ ≡ sets s 0 (length (take n l) ∷ 0 ∷ 0 ∷ [])) × (c′ ≡ sets c 0 (take n l))
               → Build w stamp ranking (table h s c m t) Built (table h′ s′ c′ m t)
-          unfolding buildVerdict firstOf rootLacksRoom built
-          build-built j h′ s′ c′ (x, y, z) =
+          unfolding buildVerdict firstOf rootLacksRoom
+          build-built j h′ s′ c′ x =
               let v : buildVerdict w ranking s c ≡ 0 = rw (← e, f, le-ltb 1 ranking g, le-leb 3 (length s) (omega arith), ← q .count, le-leb n (length c) j) in
-              record { answer = rw v; memory = rw (v, x, y, z, held-take q) }
+              record { answer = rw v; memory = rw v (root-built w stamp ranking h s c d l n q h′ s′ c′ x m t) }

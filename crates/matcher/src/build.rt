@@ -52,7 +52,7 @@ pub fn build(
     Building::Built
 }
 
-fn put_root(
+pub(crate) fn put_root(
     stamp: u32,
     ranking: u32,
     head: &mut [u32],

@@ -1,4 +1,5 @@
 // For callers that hold the sheet and the table to their shapes already.
+use crate::build::put_root;
 use advance::held::advance;
 use cached::held::cached;
 use lent::lists::cell;
@@ -6,6 +7,7 @@ use lent::lists::list_of;
 use settle::Settled;
 use settle::held::keep;
 use settle::held::settle;
+use table::held::roots;
 use table::layout;
 ghost use mathlib.Core.Path.{_≡_};
 ghost use mathlib.Core.Bool.{true, _&&_};
@@ -20,8 +22,25 @@ ghost use Rattle.advance.specs.Advancing.{Room};
 ghost use Rattle.settle.specs.Settling.{Settles};
 ghost use Rattle.table.specs.Tables.{table, statesIn, cursorsAt, matchedAt};
 ghost use Rattle.table.specs.Shape.{tableShape};
-ghost use Rattle.table.specs.Entering.{nextState};
+ghost use Rattle.table.specs.Entering.{built, nextState};
 ghost use Rattle.matcher.specs.Answers.{Enters, Parents};
+
+// The root alone, with this stamp and ranking, and nothing cached.
+pub fn build(
+    sheet: &[u32],
+    stamp: u32,
+    ranking: u32,
+    head: &mut [u32],
+    states: &mut [u32],
+    cursors: &mut [u32],
+)
+    requires { ⌜ sheetShape (now sheet) ≡ true ⌝ }
+    ensures { λ _. ⌜ ((m t : List ℕ) → table (now (head .exit)) (now (states .exit)) (now (cursors .exit)) m t ≡ built (now (sheet .entry)) stamp ranking (table (now (head .entry)) (now (states .entry)) (now (cursors .entry)) m t)) ⌝ }
+{
+    let mut list = [0u32; 256];
+    let n = roots(sheet, &mut list);
+    put_root(stamp, ranking, head, states, cursors, &list[..n]);
+}
 
 // The number of the subject's state under the parent: of an equal one, or of a new one. Its lists go through two buffers.
 fn settle_in(
