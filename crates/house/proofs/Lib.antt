@@ -1,0 +1,9 @@
+pub mod Walk
+pub mod Never
+pub mod Front
+pub mod Taking
+pub mod Feeding
+pub mod Rows
+pub mod Long
+pub mod Walking
+pub mod Starting

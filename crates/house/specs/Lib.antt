@@ -1,0 +1,4 @@
+pub mod House
+pub mod Memory
+pub mod Taking
+pub mod Answering
