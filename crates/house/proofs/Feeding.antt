@@ -1,6 +1,6 @@
 -- The records of a piece, one after the other. Assumes nothing.
 use mathlib.Core.Path.{_≡_, refl, sym, ap, _∙_}
-use mathlib.Core.Bool.{true}
+use mathlib.Core.Bool.{true, false}
 use mathlib.Core.List.{List, [], _++_}
 use Prim.Native.Nat.{ℕ, _+_, _-_, _*_, _≤_, _<_}
 use native.Mathlib.Omega.{arith}
@@ -14,7 +14,7 @@ use Rattle.house.specs.declared.Making.{Making}
 use Rattle.house.specs.House.{walkFrom}
 use Rattle.house.specs.Memory.{Below, phaseOf, Before, LeftOver, FedSheet}
 use Rattle.house.specs.Taking.{refusing, moved, Stands, leftOf, TookFront, Feeding}
-use Rattle.house.proofs.Front.{frontOf, front-whole, front-unknown, front-short}
+use Rattle.house.proofs.Front.{frontOf, front-whole, front-unknown, front-open, front-short, none-whole, rest-below}
 use Rattle.house.proofs.Walk.{walk-unknown-more}
 use Rattle.house.proofs.Taking.{moved-phase, moved-before, left-refused, left-waits}
 
@@ -29,18 +29,30 @@ feed-start input start w g b = record {
 }
 
 module _ {input : List ℕ} {start : Making} {w₀ : List ℕ} {g₀ : Group} {m : Making} {w : List ℕ} {g : Group} (f : Feeding input start w₀ g₀ m w g) where
-  fed : (m .state ≤ 1 → length input ≤ m .at + 8) → FedSheet input start w₀ g₀ m w g
-  fed short = record { within = f .within; prints = f .prints; before = f .stands .before; ready = f .stands .ready; room = f .stands .room; short = short }
+  left-below : (more : List ℕ) → Below (start .offset) (input ++ more) → Below (m .offset) (drop (m .at) input ++ more)
+  left-below more h = rest-below (start .offset) (m .offset) (m .at) input more (f .within) (f .placed (omega (arith, length-append input more))) h
+
+  fed : (m .state ≤ 1 → isWhole (drop (m .at) input) ≡ false) → (m .state ≤ 1 → length input ≤ m .at + 8) → FedSheet input start w₀ g₀ m w g
+  fed cut short = record {
+    within = f .within;
+    prints = f .prints;
+    before = f .stands .before;
+    ready = f .stands .ready;
+    room = f .stands .room;
+    below = left-below;
+    cut = cut;
+    short = short;
+  }
 
   -- refused, or the sheet's end
   pub feed-stop : 2 ≤ m .state → FedSheet input start w₀ g₀ m w g
-  feed-stop h = fed (λ l. absurd (omega arith))
+  feed-stop h = fed (λ l. absurd (omega arith)) (λ l. absurd (omega arith))
 
   pub feed-end : length input ≤ m .at → FedSheet input start w₀ g₀ m w g
-  feed-end h = fed (λ l. omega arith)
+  feed-end h = fed (λ l. none-whole (drop (m .at) input) (rw length-drop (omega arith))) (λ l. omega arith)
 
   pub feed-wait : (found : ℕ) → found ≡ frontOf (drop (m .at) input) → found ≡ 1 → FedSheet input start w₀ g₀ m w g
-  feed-wait found e o = fed (λ l. omega (arith, front-short (drop (m .at) input) found e o, length-drop (m .at) input))
+  feed-wait found e o = fed (λ l. front-open (drop (m .at) input) found e o) (λ l. omega (arith, front-short (drop (m .at) input) found e o, length-drop (m .at) input))
 
   module _ (waits : m .state ≤ 1) (more-is : m .at < length input) where
     some-left : 1 ≤ length (drop (m .at) input)
@@ -57,6 +69,8 @@ module _ {input : List ℕ} {start : Making} {w₀ : List ℕ} {g₀ : Group} {m
       before = λ h. absurd (omega arith);
       ready = λ h. absurd (omega arith);
       room = f .stands .room;
+      below = left-below;
+      cut = λ h. absurd (omega arith);
       short = λ h. absurd (omega arith);
     }
 
@@ -130,6 +144,8 @@ fed-start input start w₀ g₀ m w g f = record {
   before = f .before;
   ready = f .ready;
   room = f .room;
+  below = f .below;
+  cut = f .cut;
   short = f .short;
 }
 

@@ -1,13 +1,14 @@
 -- What stands at the front of bytes, as `front` tells it. Assumes nothing.
 use mathlib.Core.Path.{_≡_, refl, sym, _∙_}
 use mathlib.Core.Bool.{Bool, cond, true, false, not}
-use mathlib.Core.List.{List}
-use Prim.Native.Nat.{ℕ, _≤_}
+use mathlib.Core.List.{List, _++_}
+use Prim.Native.Nat.{ℕ, _+_, _≤_}
 use native.Mathlib.Omega.{arith}
-use lib.ListN.{length}
+use lib.ListN.{length, drop, length-append, length-drop}
 use borrow.Author.Tests.{leb-false, not-true, not-false}
 use Rattle.records.specs.Records.{known, kindOf, sizeOf, isWhole}
-use Rattle.records.proofs.Records.{size-most}
+use Rattle.records.proofs.Records.{size-some, size-most, whole-room}
+use Rattle.house.specs.Memory.{Below}
 
 abbrev pub tells : Bool → Bool → ℕ
 tells known whole = cond known (cond whole 0 1) 2
@@ -38,12 +39,27 @@ module _ (bytes : List ℕ) (found : ℕ) (f : found ≡ frontOf bytes) where
   pub front-unknown : found ≡ 2 → known (kindOf bytes) ≡ false
   front-unknown e = front-none (known (kindOf bytes)) (isWhole bytes) (sym f ∙ e)
 
-  -- the beginning of a record is short
+  -- the beginning of a record is not whole, and short
+  pub front-open : found ≡ 1 → isWhole bytes ≡ false
+  front-open e = front-cut (known (kindOf bytes)) (isWhole bytes) (sym f ∙ e) .1
+
   pub front-short : found ≡ 1 → length bytes ≤ 8
   unfolding isWhole
   front-short e =
       let (k, w) = front-cut (known (kindOf bytes)) (isWhole bytes) (sym f ∙ e) in
       omega (arith, leb-false (sizeOf (kindOf bytes)) (length bytes) (rw k at w), size-most (kindOf bytes))
+
+-- nor is nothing a record
+pub none-whole : (bytes : List ℕ) → length bytes ≤ 0 → isWhole bytes ≡ false
+none-whole bytes h = by (isWhole bytes) refl
+  where
+    by : (b : Bool) → isWhole bytes ≡ b → b ≡ false
+    by true e = absurd (omega (arith, whole-room bytes e, size-some (kindOf bytes)))
+    by false e = refl
+
+-- where the place goes with what was taken, the input ends where it did
+pub rest-below : (start offset at : ℕ) (input more : List ℕ) → at ≤ length input → offset ≡ start + at → Below start (input ++ more) → Below offset (drop at input ++ more)
+rest-below start offset at input more h e l = rw (length-append, length-drop) (omega (arith, length-append input more))
 
 -- the ways through `front`
 module _ (bytes : List ℕ) (kind : ℕ) (k : Bool) (q : kind ≡ kindOf bytes) (e : k ≡ known kind) where

@@ -24,7 +24,7 @@ use Rattle.house.specs.House.{walks, outcome, stops, leads, walkFrom}
 use Rattle.house.specs.Memory.{Below, FedWalk}
 use Rattle.house.specs.Answering.{Answers, Steps, answered, refused, Next, Last, Awaits}
 use Rattle.house.proofs.Walk.{walk-stops, walk-leads, walk-unknown-more}
-use Rattle.house.proofs.Front.{frontOf, front-whole, front-unknown, front-short}
+use Rattle.house.proofs.Front.{frontOf, front-whole, front-unknown, front-open, front-short, none-whole, rest-below}
 use Rattle.house.proofs.Rows.{ready-after}
 use Rattle.house.proofs.Long.{refused-short, line-short}
 
@@ -245,9 +245,12 @@ module _ {input : List ℕ} {offset : ℕ} {w : List ℕ} {t₀ : Table} {items�
   pub going-fed : Last input v → FedWalk input offset w t₀ items₀ v out t items
   going-fed h = record {
     within = g .within;
+    size = g .size;
     used = g .used;
     prints = g .prints;
     ready = g .ready;
+    below = λ more l. rest-below offset (v .offset) (v .at) input more (g .within) (g .place (omega (arith, g .within, length-append input more))) l;
+    cut = λ e x. h .cut e (g .none e x) x;
     short = λ e x. h .short e (g .none e x) x;
   }
 
@@ -269,13 +272,13 @@ module _ {input : List ℕ} {v : Walked} where
   awaits-not h = record { goes = λ e. absurd (true≢false (sym e)); rests = λ e. h }
 
   pub awaits-ends : v .ends ≡ true → Awaits input v false
-  awaits-ends h = awaits-not (record { short = λ p q e. absurd (true≢false (sym h ∙ e)) })
+  awaits-ends h = awaits-not (record { cut = λ p q e. absurd (true≢false (sym h ∙ e)); short = λ p q e. absurd (true≢false (sym h ∙ e)) })
 
   pub awaits-full : 40000 < v .used → Awaits input v false
-  awaits-full h = awaits-not (record { short = λ p q e. absurd (omega arith) })
+  awaits-full h = awaits-not (record { cut = λ p q e. absurd (omega arith); short = λ p q e. absurd (omega arith) })
 
   pub awaits-none : length input ≤ v .at → Awaits input v false
-  awaits-none h = awaits-not (record { short = λ p q e. omega arith })
+  awaits-none h = awaits-not (record { cut = λ p q e. none-whole input (omega arith); short = λ p q e. omega arith })
 
 -- by what is at the front
 module _ {input : List ℕ} {v : Walked} (r : ℕ) where
@@ -291,7 +294,10 @@ module _ {input : List ℕ} {v : Walked} (r : ℕ) where
   }
 
   awaits-cut : r ≡ frontOf (drop (v .at) input) → r ≡ 1 → Awaits input v false
-  awaits-cut e x = awaits-not (record { short = λ p q z. omega (arith, front-short (drop (v .at) input) r e x, length-drop (v .at) input) })
+  awaits-cut e x = awaits-not (record {
+    cut = λ p q z. rw p at (front-open (drop (v .at) input) r e x);
+    short = λ p q z. omega (arith, front-short (drop (v .at) input) r e x, length-drop (v .at) input);
+  })
 
   pub awaits-front : r ≡ frontOf (rested input v) → v .at < length input → v .ends ≡ false → v .used ≤ 40000 → Awaits input v (not (eqb r 1))
   awaits-front e l o f = by (eqb r 1) refl

@@ -33,8 +33,9 @@ pub record Next (input : List ℕ) (v : Walked) : Type 0 where
   pub few : v .used ≤ 40000
   pub whole : known (kindOf (drop (v .at) input)) ≡ true → isWhole (drop (v .at) input) ≡ true
 
--- there is none; where none was taken either, what is there is short
+-- there is none; where none was taken either, what is there is not whole, and so is short
 pub record Last (input : List ℕ) (v : Walked) : Type 0 where
+  pub cut : v .at ≡ 0 → v .used ≡ 0 → v .ends ≡ false → isWhole input ≡ false
   pub short : v .at ≡ 0 → v .used ≡ 0 → v .ends ≡ false → length input ≤ 8
 
 pub record Awaits (input : List ℕ) (v : Walked) (r : Bool) : Type 0 where

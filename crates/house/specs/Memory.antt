@@ -9,6 +9,7 @@ use Rattle.sheet.specs.Layout.{SHEET-WORDS}
 use Rattle.sheet.specs.Shape.{sheetShape}
 use Rattle.given.specs.Given.{Group}
 use Rattle.table.specs.Tables.{Table}
+use Rattle.records.specs.Records.{isWhole}
 use Rattle.gather.specs.Memory.{openOf, Roomy, Sound}
 use Rattle.replies.specs.Lines.{refusedLine}
 use Rattle.replies.specs.Walking.{walking}
@@ -51,17 +52,24 @@ pub record FedSheet (input : List ℕ) (m : Making) (w : List ℕ) (g : Group) (
   pub before : m′ .state ≤ 1 → Before m′ w′ g′
   pub ready : m′ .state ≡ 3 → (sheetShape w′ ≡ true) × (m′ .ranking ≤ 1)
   pub room : Roomy g′
-  -- what is not whole is short
+  -- what is left of the whole input still ends below
+  pub below : (more : List ℕ) → Below (m .offset) (input ++ more) → Below (m′ .offset) (drop (m′ .at) input ++ more)
+  -- more is awaited only where what is left is not whole, and so is short
+  pub cut : m′ .state ≤ 1 → isWhole (drop (m′ .at) input) ≡ false
   pub short : m′ .state ≤ 1 → length input ≤ m′ .at + 8
 
 -- ---- after kind 8
 
 pub record FedWalk (input : List ℕ) (offset : ℕ) (w : List ℕ) (t : Table) (items : List ℕ) (r : Walked) (out′ : List ℕ) (t′ : Table) (items′ : List ℕ) : Type 0 where
   pub within : r .at ≤ length input
+  -- the buffer keeps its length, for the next call
+  pub size : length out′ ≡ 131072
   pub used : r .used ≤ length out′
   pub prints : (room : ℕ) (more : List ℕ) → Below offset (input ++ more)
       → walkFrom room (walks (walking w t items)) offset (input ++ more)
       ≡ take (r .used) out′ ++ cond (r .ends) [] (walkFrom room (walks (walking w t′ items′)) (r .offset) (drop (r .at) input ++ more))
   pub ready : Ready w t′ items′
-  -- where nothing was taken and the program does not end, what is there is not whole, and short
+  pub below : (more : List ℕ) → Below offset (input ++ more) → Below (r .offset) (drop (r .at) input ++ more)
+  -- where nothing was taken and the program does not end, what is there is not whole, and so is short
+  pub cut : r .at ≡ 0 → r .ends ≡ false → isWhole input ≡ false
   pub short : r .at ≡ 0 → r .ends ≡ false → length input ≤ 8
