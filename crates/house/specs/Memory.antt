@@ -18,7 +18,7 @@ use Rattle.house.specs.declared.Making.{Making}
 use Rattle.house.specs.declared.Walked.{Walked}
 use Rattle.house.specs.House.{Phase, first, making, walks, built-of, walkFrom}
 
--- "inputs below 2^64 bytes": what is left ends below that
+-- Inputs are below 2^64 bytes: what is left ends below that
 abbrev pub Below : ℕ → List ℕ → Type 0
 Below offset bytes = offset + length bytes < 18446744073709551616
 

@@ -1,0 +1,4 @@
+pub mod Pieces
+pub mod Never
+pub mod Alike
+pub mod Rooms

@@ -1,0 +1,1 @@
+// What `walk` prints: theorems, no code.
