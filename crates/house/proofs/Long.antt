@@ -5,14 +5,13 @@ use mathlib.Core.Option.{Option, none, some}
 use mathlib.Core.List.{List, [], _∷_, _++_, flatMap}
 use Prim.Native.Nat.{ℕ, _+_, _*_, _≤_}
 use native.Mathlib.Omega.{arith}
-use lib.ListN.{length, length-append, length-take, length-drop, length-replicate}
+use lib.ListN.{length, length-append, length-replicate}
 use lib.Dec.{eqb, ltb}
 use borrow.Author.Tests.{eqb-true, ltb-false}
-use Rattle.lent.specs.Pool.{listAt}
 use Rattle.lent.proofs.Refusals.{first-clear}
 use Rattle.sheet.specs.Sheets.{styleAt, ruleAt}
 use Rattle.winners.specs.Winners.{Place, style, rule}
-use Rattle.table.specs.Tables.{Table, matchedEnds}
+use Rattle.table.specs.Tables.{Table}
 use Rattle.table.specs.Calls.{broken, notAState, stateVerdict}
 use Rattle.cascade.specs.Calls.{rulesAt, winnerIn, changedIn, changedVerdict}
 use Rattle.records.specs.declared.Record.{Record}
@@ -20,6 +19,7 @@ use Rattle.replies.specs.Lines.{decimal, spaced, listed, REFUSED, AT, STATE, MA
 use Rattle.replies.specs.Walking.{Walking, walking, printed, stampOf, itemFault, itemLine, enteringVerdict, childIn, enteredIn, enterLine, changedRoom, changedReply, winnerReply, walkingLine}
 use Rattle.replies.specs.Memory.{Ready}
 use Rattle.replies.proofs.Decimal.{decimal-short}
+use Rattle.replies.proofs.Replying.{list-few}
 use Rattle.house.proofs.Rows.{ready-tabled, entered-tabled}
 
 both : (a b : List ℕ) (m n : ℕ) → length a ≤ m → length b ≤ n → length (a ++ b) ≤ m + n
@@ -86,11 +86,6 @@ printed-short v offset line h = by (eqb v 0) refl
     by true e = h (eqb-true v 0 e)
     by false e = omega (arith, refused-short v offset)
 
--- a list in a pool has at most the pool's length
-list-most : (ends : ℕ → ℕ) (pool : List ℕ) (k : ℕ) → length (listAt ends pool k) ≤ length pool
-unfolding listAt
-list-most ends pool k = rw (length-take, length-drop) (omega arith)
-
 -- what was accepted fits the buffer
 changed-few : (w : List ℕ) (t : Table) (old a new b : ℕ) (out : List ℕ) → changedVerdict w t old a new b out ≡ 0 → length (changedIn w t old new) ≤ length out
 unfolding changedVerdict
@@ -113,7 +108,7 @@ module _ {w : List ℕ} {t : Table} {items : List ℕ} (y : Ready w t items) (of
   unfolding enterLine
   enter-short parent = printed-short (enteringVerdict here parent) offset (stateLine (childIn here parent) (rulesAt (enteredIn here parent) (childIn here parent))) (λ e.
       let long = entered-tabled w t items (ready-tabled y) parent e .matched in
-      let few = list-most (matchedEnds (enteredIn here parent .states)) (enteredIn here parent .matched) (childIn here parent) in
+      let few = list-few (enteredIn here parent .states) (enteredIn here parent .matched) (childIn here parent) in
       omega (arith, state-short (childIn here parent) (rulesAt (enteredIn here parent) (childIn here parent))))
 
   reply-short : (old new : ℕ) → length (changedReply here offset old new) ≤ 87000

@@ -52,7 +52,7 @@ use Rattle.replies.specs.Memory.{Ready, Replies}
 use Rattle.replies.proofs.Items.{emptied, subject-proper, proper-fits, proper-rises}
 
 -- a list of a pool is no longer than the pool
-list-few : (states pool : List ℕ) (k : ℕ) → length (matchedAt states pool k) ≤ length pool
+pub list-few : (states pool : List ℕ) (k : ℕ) → length (matchedAt states pool k) ≤ length pool
 unfolding listAt
 list-few states pool k = rw (length-take, length-drop) (omega arith)
 
