@@ -25,7 +25,7 @@ feed-start input start w g b = record {
   within = omega arith;
   placed = λ _. omega arith;
   prints = λ room more h. rw (← moved-phase start w g (start .offset) 0) (sym (left-waits room (input ++ more) (moved start (start .offset) 0) w g (b .awaits)));
-  stands = record { before = λ _. moved-before (start .offset) 0 b; ready = λ e. absurd (omega (arith, b .awaits)); room = b .sound .room };
+  stands = record { before = λ _. moved-before (start .offset) 0 b; ready = λ e. absurd (omega (arith, b .awaits)); known = omega (arith, b .awaits); room = b .sound .room };
 }
 
 module _ {input : List ℕ} {start : Making} {w₀ : List ℕ} {g₀ : Group} {m : Making} {w : List ℕ} {g : Group} (f : Feeding input start w₀ g₀ m w g) where
@@ -35,6 +35,7 @@ module _ {input : List ℕ} {start : Making} {w₀ : List ℕ} {g₀ : Group} {m
   fed : (m .state ≤ 1 → isWhole (drop (m .at) input) ≡ false) → (m .state ≤ 1 → length input ≤ m .at + 8) → FedSheet input start w₀ g₀ m w g
   fed cut short = record {
     within = f .within;
+    known = f .stands .known;
     prints = f .prints;
     before = f .stands .before;
     ready = f .stands .ready;
@@ -65,6 +66,7 @@ module _ {input : List ℕ} {start : Making} {w₀ : List ℕ} {g₀ : Group} {m
     pub feed-unknown : (found : ℕ) → found ≡ frontOf (drop (m .at) input) → found ≡ 2 → FedSheet input start w₀ g₀ (refusing m 10) w g
     feed-unknown found e o = record {
       within = f .within;
+      known = omega arith;
       prints = λ room more h. here room more h ∙ walk-unknown-more room (phaseOf m w g) (m .offset) (drop (m .at) input) more (front-unknown (drop (m .at) input) found e o) some-left;
       before = λ h. absurd (omega arith);
       ready = λ h. absurd (omega arith);
@@ -140,6 +142,7 @@ fed-start : (input : List ℕ) (start : Making) (w₀ : List ℕ) (g₀ : Group)
     → FedSheet input start w₀ g₀ m w g
 fed-start input start w₀ g₀ m w g f = record {
   within = f .within;
+  known = f .known;
   prints = λ room more h. rw (← moved-phase start w₀ g₀ (start .offset) 0) (f .prints room more h);
   before = f .before;
   ready = f .ready;

@@ -50,7 +50,7 @@ module _ (m : Making) (w : List ℕ) (g : Group) where
   unfolding did
   took-refused r v w′ g′ room e = record {
     does = e;
-    stands = record { before = λ h. absurd (omega arith); ready = λ h. absurd (omega arith); room = room };
+    stands = record { before = λ h. absurd (omega arith); ready = λ h. absurd (omega arith); known = omega arith; room = room };
     at = refl;
     offset = refl;
   }
@@ -105,6 +105,7 @@ module _ (m : Making) (w : List ℕ) (g : Group) (b : Before m w g) (z : m .stat
             ranking = h;
           };
           ready = λ x. absurd (omega arith);
+          known = omega arith;
           room = b .sound .room;
         };
         at = refl;
@@ -145,7 +146,7 @@ module _ (m : Making) (w : List ℕ) (g : Group) (b : Before m w g) (z : m .stat
             ← sheet-after,
             build-never-refused w′ (m .ranking) room (k .shape) (b .ranking),
           ));
-      stands = record { before = λ l. absurd (omega arith); ready = λ x. (k .shape, b .ranking); room = k .sound .room };
+      stands = record { before = λ l. absurd (omega arith); ready = λ x. (k .shape, b .ranking); known = omega arith; room = k .sound .room };
       at = refl;
       offset = refl;
     }
@@ -164,6 +165,7 @@ module _ (m : Making) (w : List ℕ) (g : Group) (b : Before m w g) (z : m .stat
           ranking = b .ranking;
         };
         ready = λ x. absurd (omega arith);
+        known = omega arith;
         room = k .sound .room;
       };
       at = refl;
@@ -208,7 +210,7 @@ pub moved-before : {m : Making} {w : List ℕ} {g : Group} (o a : ℕ) → Befor
 moved-before o a b = record { awaits = b .awaits; zeros = b .zeros; nothing = b .nothing; sound = b .sound; shape = b .shape; ranking = b .ranking }
 
 pub moved-stands : {m : Making} {w : List ℕ} {g : Group} (o a : ℕ) → Stands m w g → Stands (moved m o a) w g
-moved-stands o a s = record { before = λ h. moved-before o a (s .before h); ready = s .ready; room = s .room }
+moved-stands o a s = record { before = λ h. moved-before o a (s .before h); ready = s .ready; known = s .known; room = s .room }
 
 -- what is left, by the state
 module _ (room : ℕ) (bytes : List ℕ) (m : Making) (w : List ℕ) (g : Group) where

@@ -47,6 +47,7 @@ LeftOver room input m w g more =
 
 pub record FedSheet (input : List ℕ) (m : Making) (w : List ℕ) (g : Group) (m′ : Making) (w′ : List ℕ) (g′ : Group) : Type 0 where
   pub within : m′ .at ≤ length input
+  pub known : m′ .state ≤ 3
   pub prints : (room : ℕ) (more : List ℕ) → Below (m .offset) (input ++ more)
       → walkFrom room (phaseOf m w g) (m .offset) (input ++ more) ≡ LeftOver room input m′ w′ g′ more
   pub before : m′ .state ≤ 1 → Before m′ w′ g′

@@ -29,6 +29,7 @@ moved m offset at = record { state = m .state; ranking = m .ranking; stamp = m .
 pub record Stands (m : Making) (w : List ℕ) (g : Group) : Type 0 where
   pub before : m .state ≤ 1 → Before m w g
   pub ready : m .state ≡ 3 → (sheetShape w ≡ true) × (m .ranking ≤ 1)
+  pub known : m .state ≤ 3
   pub room : Roomy g
 
 -- the phase that an accepted record has led to
