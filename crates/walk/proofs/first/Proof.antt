@@ -1,0 +1,11 @@
+-- `walk::first` meets its contract. Assumes nothing.
+use mathlib.Core.Path.{refl}
+use Rattle.house.proofs.Starting.{start-before}
+use Rattle.walk.proofs.first.Statement.{statement}
+use Rattle.walk.proofs.first.Tie as tie
+
+returns : tie.Need-returns
+returns c = (refl, start-before)
+
+pub first-spec : {M : Type 1} → statement M
+first-spec = tie.close (tie.spec returns)
