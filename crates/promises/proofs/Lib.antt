@@ -1,3 +1,7 @@
+pub mod Determined
+pub mod Ladders
+pub mod Demand1
+pub mod Demand1Rest
 pub mod Along
 pub mod Listed
 pub mod Calls
