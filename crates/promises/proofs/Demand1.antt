@@ -3,11 +3,12 @@
 -- That a call takes all input and ends is what the checker shows of each: outside the modules `held` no contract has a `requires`, and a contract is proved of a
 -- function only if it ends. Here, of each call that can refuse, by its contract: its checks, in the order that 01 gives them; the first whose test holds gives
 -- the number, which is told alone; where none holds, and only there, the call is accepted; and what was lent to write is left as it was by a refusal.
--- `Refusing checks told` says so of what the answer tells, `Guarding checks told before after` of that and of memory. Each test is defined in the specs/
--- of its crate, under its line of 01's table. A row is a subject or a step in lent words, w a sheet's words, t a table's.
-use mathlib.Core.Path.{_≡_, refl}
+-- `Refusing checks told` says so of what the answer tells, `Guarding checks told before after` of that and of memory. There is always one number or none
+-- (Ladders.antt, `decided`, `one-number`). Each test is defined in the specs/ of its crate, under its line of 01's table; w is a sheet's words, t a table's.
+-- Refusal 10 is of house records, which no call here takes. Demand1Rest.antt has the calls for which 01's "Order" has no line.
+use mathlib.Core.Path.{_≡_, refl, _∙_}
 use mathlib.Core.Logic.{_↔_, _⊎_}
-use mathlib.Core.Bool.{not}
+use mathlib.Core.Bool.{true, not}
 use mathlib.Core.List.{List, [], _∷_, _++_}
 use Prim.Native.Nat.{ℕ, suc, _+_, _<_}
 use lib.ListN.{length, getElem?}
@@ -39,9 +40,10 @@ use Rattle.sheet.specs.declared.EntryAnswer.{EntryAnswer}
 use Rattle.sheet.specs.declared.CombinatorAnswer.{CombinatorAnswer}
 use Rattle.sheet.specs.declared.StepAnswer.{StepAnswer}
 use Rattle.given.specs.Given.{Group, stepCount, combinatorCount, entryCount, stepsFrom, combinatorsFrom, propertiesFrom, kindsFrom, numbersFrom, selectorGiven}
-use Rattle.given.specs.Pushing.{allEntriesIn, rulesOver, sumsOver, indexesOver, ruleChecks, stylePushVerdict, groupVerdict, cascadeVerdict}
+use Rattle.given.specs.Pushing.{allEntriesIn, rulesOver, sumsOver, indexesOver, ruleChecks, stylePushVerdict, groupVerdict, cascadeVerdict, pushedCascade}
 use Rattle.builder.specs.Answers.{pushingTold, Push}
 use Rattle.builder.specs.declared.Pushing.{Pushing}
+use Rattle.made.proofs.Pushed.{nothing-accepted, nothing-pushed}
 use Rattle.table.specs.Tables.{Table}
 use Rattle.table.specs.Entering.{rootLacksRoom, lacksRoom}
 use Rattle.table.specs.Calls.{broken, notAState, buildVerdict, stateVerdict, enterVerdict}
@@ -231,7 +233,7 @@ module _ (w : List ℕ) (origin : ℕ) (g : Group) (n : ℕ) where
       ↔ (First beforeRules m ⊎ (None beforeRules × (InTurn n ruleInTurn m ⊎ (((k : ℕ) → k < n → None (ruleInTurn k)) × First afterRules m))))
   group-gives m = nested beforeRules ruleInTurn n afterRules m
 
--- ---- "Pushing a cascade 11, 2, 7": the sheet, then the one that is pushed
+-- ---- "Pushing a cascade 11, 2, 7; one without direct styles and rules is accepted and alters nothing." 11: the sheet, then the one that is pushed
 
 pub push-cascade-refuses : (w v : List ℕ) {pushed after : List ℕ} {r : Pushing} → Push (cascadeVerdict w v) w pushed r after
     → Guarding
@@ -240,7 +242,13 @@ pub push-cascade-refuses : (w v : List ℕ) {pushed after : List ℕ} {r : Pushi
 unfolding cascadeVerdict
 push-cascade-refuses w v c = guarding refl _ (_, refl) (c .answer) (c .memory)
 
--- ---- "Build 11 (sheet), 6, 5."
+pub push-bare-cascade : (w v : List ℕ) → sheetShape w ≡ true → sheetShape v ≡ true → Layout.stylesIn v ≡ 0 → Layout.rulesIn v ≡ 0 → {after : List ℕ} {r : Pushing}
+    → Push (cascadeVerdict w v) w (pushedCascade w v) r after → (pushingTold r ≡ 0 ∷ []) × (after ≡ w)
+push-bare-cascade w v s s′ no-styles no-rules c =
+    let e = nothing-accepted w v s no-styles no-rules s′ in
+    (rw e at (c .answer), rw e at (c .memory) ∙ nothing-pushed w v s no-styles no-rules)
+
+-- ---- "Build 11 (sheet), 6, 5." It is lent three of the table's five pieces, and its contract says this whatever the other two are
 
 pub build-refuses : (w : List ℕ) (stamp ranking : ℕ) (t : Table) {r : Building} {t′ : Table} → Build w stamp ranking t r t′
     → Guarding (check 11 (not (sheetShape w)) ∷ check 6 (ltb 1 ranking) ∷ check 5 (rootLacksRoom w (t .states) (t .cursors)) ∷ []) (buildingTold r) t t′

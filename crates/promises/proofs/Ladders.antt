@@ -57,6 +57,18 @@ first-positive : (l : List Check) (n : ℕ) → positive l ≡ true → First l 
 first-positive (c ∷ l) n p (here f e) z = omega (arith, ltb-true 0 (c .number) (and-left _ _ p), e, z)
 first-positive (c ∷ l) n p (later f x) z = first-positive l n (and-right (ltb 0 (c .number)) _ p) x z
 
+-- one number, or none holds: there is nothing else
+pub one-number : (l : List Check) (n m : ℕ) → First l n → First l m → n ≡ m
+one-number l n m x y = sym (first-number l n x) ∙ first-number l m y
+
+pub decided : (l : List Check) → None l ⊎ ((n : ℕ) × First l n)
+decided [] = inl None.none
+decided (c ∷ l) = by (c .fails) refl (decided l)
+  where
+    by : (t : Bool) → c .fails ≡ t → None l ⊎ ((n : ℕ) × First l n) → None (c ∷ l) ⊎ ((n : ℕ) × First (c ∷ l) n)
+    by true f r = inr (c .number, here f refl)
+    by false f r = elim r [ inl x ↦ inl (None.more f x) | inr x ↦ inr (x .0, later f (x .1)) ]
+
 module _ (checks : List Check) (p : positive checks ≡ true) where
   pub number-exactly : (n : ℕ) → ((firstOf checks ≡ n) × (n ≢ 0)) ↔ First checks n
   number-exactly n = (λ e. number-first checks n (e .0) (e .1), λ x. (first-number checks n x, first-positive checks n p x))
