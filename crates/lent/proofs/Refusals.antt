@@ -1,7 +1,7 @@
 -- Laws of the refusals' numbers, and of the first test that holds. Assumes nothing.
 use mathlib.Core.Path.{_≡_, refl, sym, ap, _∙_, subst}
 use mathlib.Core.Bool.{Bool, true, false, not, _&&_, true≢false}
-use mathlib.Core.List.{List, [], _∷_, _++_, List·Memᴰ·head, List·Memᴰ·tail, List·Memᴰ·cases-cons, List·Memᴰ·not-nil}
+use mathlib.Core.List.{List, [], _∷_, _++_}
 use mathlib.Core.Logic.{_⊎_, inl, inr, ⊎-elim}
 use Prim.Native.Nat.{ℕ, zero, suc, _+_, _≤_, _<_}
 use native.Mathlib.Nat.{eq-or-lt-of-le, le-of-suc-le-suc}
@@ -11,7 +11,6 @@ use native.Mathlib.Decide.{decLt}
 use lib.ListN.{getD, List·getD-eq-default}
 use lib.Dec.{ltb, eqb}
 use borrow.Author.Tests.{ltb-true, eq-eqb}
-use Rattle.theory.specs.Lists.{_∈_}
 use Rattle.theory.proofs.Lists.{and-left, and-right}
 use Rattle.lent.specs.Refusals.{numberOf, added, told, refusals, refusalOf, Check, check, firstOf, checksBelow}
 use Rattle.lent.specs.declared.Refusal.{Refusal}
@@ -110,10 +109,6 @@ told-distinct a b e = sym (untold-told a) ∙ ap untold e ∙ untold-told b
 
 -- ---- the first test that holds
 
--- no test of the list holds
-abbrev pub Passed : List Check → Type 0
-Passed l = (c : Check) → c ∈ l → c .fails ≡ false
-
 -- a test that holds gives its number
 pub first-here : (c : Check) (l : List Check) → c .fails ≡ true → firstOf (c ∷ l) ≡ c .number
 unfolding firstOf
@@ -123,58 +118,6 @@ first-here c l h = rw h
 pub first-next : (c : Check) (l : List Check) → c .fails ≡ false → firstOf (c ∷ l) ≡ firstOf l
 unfolding firstOf
 first-next c l h = rw h
-
--- where none holds, the call is accepted
-pub first-none : (l : List Check) → Passed l → firstOf l ≡ 0
-first-none [] h = unfold firstOf in refl
-first-none (c ∷ l) h = first-next c l (h c (List·Memᴰ·head refl)) ∙ first-none l (λ d m. h d (List·Memᴰ·tail m))
-
--- where a list's first test that holds stands, and that its number is n
-pub record First (l : List Check) (n : ℕ) : Type 0 where
-  pub before : List Check
-  pub check : Check
-  pub after : List Check
-  pub split : l ≡ before ++ check ∷ after
-  pub number : check .number ≡ n
-  pub fails : check .fails ≡ true
-  pub passed : Passed before
-
-passed-cons : (c : Check) (l : List Check) → c .fails ≡ false → Passed l → Passed (c ∷ l)
-passed-cons c l e h d m = elim (List·Memᴰ·cases-cons m) [ inl q ↦ ap (λ (x : Check). x .fails) q ∙ e | inr k ↦ h d k ]
-
--- a number that is not 0 is that of the first test that holds
-pub first-is : (l : List Check) (n : ℕ) → firstOf l ≡ n → (n ≡ 0 → ⊥) → First l n
-first-is [] n e h = absurd (h (sym e ∙ (unfold firstOf in refl)))
-first-is (c ∷ l) n e h = by (c .fails) refl (λ f. first-is l n (sym (first-next c l f) ∙ e) h)
-  where
-    by : (t : Bool) → c .fails ≡ t → (c .fails ≡ false → First l n) → First (c ∷ l) n
-    by true f r = record {
-      before = [];
-      check = c;
-      after = l;
-      split = refl;
-      number = sym (first-here c l f) ∙ e;
-      fails = f;
-      passed = λ d m. absurd (List·Memᴰ·not-nil m);
-    }
-    by false f r = record {
-      before = c ∷ r f .before;
-      check = r f .check;
-      after = r f .after;
-      split = ap (λ k. c ∷ k) (r f .split);
-      number = r f .number;
-      fails = r f .fails;
-      passed = passed-cons c (r f .before) f (r f .passed);
-    }
-
--- 0 says that no test holds, where every number is positive
-pub first-zero : (l : List Check) → ((c : Check) → c ∈ l → 0 < c .number) → firstOf l ≡ 0 → Passed l
-first-zero [] p e = λ d m. absurd (List·Memᴰ·not-nil m)
-first-zero (c ∷ l) p e = by (c .fails) refl (λ f. first-zero l (λ d m. p d (List·Memᴰ·tail m)) (sym (first-next c l f) ∙ e))
-  where
-    by : (t : Bool) → c .fails ≡ t → (c .fails ≡ false → Passed l) → Passed (c ∷ l)
-    by true f r = absurd (omega (arith, p c (List·Memᴰ·head refl), sym (first-here c l f) ∙ e))
-    by false f r = passed-cons c l f (r f)
 
 -- ---- one list of tests after another
 
