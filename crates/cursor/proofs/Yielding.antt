@@ -9,37 +9,27 @@ use lib.ListN.{length, getD, take, drop, drop-of-length-le}
 use lib.Seq.{take-nil, take-all, drop-cons}
 use borrow.Author.Tests.{lt-ltb, le-ltb}
 use Rattle.theory.proofs.Lists.{le-or-lt}
-use Rattle.cursor.specs.Yielding.{nextAt, indexAfter}
-use Rattle.cursor.specs.declared.NextRule.{NextRule}
-use Rattle.cursor.specs.declared.NextRule.the-variants.{Rule, End}
+use Rattle.cursor.specs.Yielding.{nextOf, indexAfter, yielded}
 
 -- ---- one step
 module _ (rules : List ℕ) (k : ℕ) where
-  pub next-within : k < length rules → nextAt rules k ≡ Rule (getD rules k 0)
-  unfolding nextAt
+  pub next-within : k < length rules → nextOf rules k ≡ 1 ∷ getD rules k 0 ∷ []
+  unfolding nextOf
   next-within h = simp (lt-ltb _ _ h)
 
   pub index-within : k < length rules → indexAfter rules k ≡ k + 1
   unfolding indexAfter
   index-within h = simp (lt-ltb _ _ h)
 
-  pub next-end : length rules ≤ k → nextAt rules k ≡ End
-  unfolding nextAt
+  pub next-end : length rules ≤ k → nextOf rules k ≡ 0 ∷ []
+  unfolding nextOf
   next-end h = simp (le-ltb _ _ h)
 
   pub index-end : length rules ≤ k → indexAfter rules k ≡ k
   unfolding indexAfter
   index-end h = simp (le-ltb _ _ h)
 
--- ---- n steps from the index k: the numbers that they yield, and the index after them
-abbrev pub onto : NextRule → List ℕ → List ℕ
-onto (Rule r) l = r ∷ l
-onto End l = l
-
-unfoldable pub yielded : List ℕ → ℕ → ℕ → List ℕ
-yielded rules zero k = []
-yielded rules (suc n) k = onto (nextAt rules k) (yielded rules n (indexAfter rules k))
-
+-- ---- n steps from the index k: the index after them
 unfoldable pub indexIn : List ℕ → ℕ → ℕ → ℕ
 indexIn rules zero k = k
 indexIn rules (suc n) k = indexIn rules n (indexAfter rules k)

@@ -1,7 +1,7 @@
 // `RuleCursor` of matcher.rs: a place in a list of matched rules, which yields their numbers one after the other. The borrow checker covers no
 // function over a struct that holds a slice, so each is thin, and proved by hand; the work is in `rule_at` and `index_after`.
 ghost use mathlib.Core.Path.{_≡_};
-ghost use Rattle.cursor.specs.Yielding.{nextAt, indexAfter};
+ghost use Rattle.cursor.specs.Yielding.{nextTold, nextOf, indexAfter};
 
 pub struct RuleCursor<'a> {
     pub rules: &'a [u32],
@@ -21,7 +21,7 @@ pub struct Yielded {
 
 // What stands at an index.
 pub fn rule_at(rules: &[u32], index: usize) -> NextRule
-    ensures { λ r. ⌜ r ≡ nextAt (now (rules .entry)) index ⌝ }
+    ensures { λ r. ⌜ nextTold r ≡ nextOf (now (rules .entry)) index ⌝ }
 {
     if index < rules.len() {
         return NextRule::Rule(rules[index]);
@@ -58,7 +58,7 @@ pub fn moved<'a>(cursor: RuleCursor<'a>, index: usize) -> RuleCursor<'a>
 
 // `RuleCursor::next`: yields the next rule number, and moves on.
 pub fn next<'s, 'a>(cursor: &'s mut RuleCursor<'a>) -> NextRule
-    ensures { λ r. ⌜ (r ≡ nextAt (now (now (cursor .entry) .rules)) (now (cursor .entry) .index)) × (now (cursor .exit) .rules ≡ now (cursor .entry) .rules) × (now (cursor .exit) .index ≡ indexAfter (now (now (cursor .entry) .rules)) (now (cursor .entry) .index)) ⌝ }
+    ensures { λ r. ⌜ (nextTold r ≡ nextOf (now (now (cursor .entry) .rules)) (now (cursor .entry) .index)) × (now (cursor .exit) .rules ≡ now (cursor .entry) .rules) × (now (cursor .exit) .index ≡ indexAfter (now (now (cursor .entry) .rules)) (now (cursor .entry) .index)) ⌝ }
 {
     let rule = rule_at(cursor.rules, cursor.index);
     cursor.index = index_after(cursor.rules, cursor.index);
@@ -67,7 +67,7 @@ pub fn next<'s, 'a>(cursor: &'s mut RuleCursor<'a>) -> NextRule
 
 // One step of a cursor over these rules that stands at `index`.
 pub fn step(rules: &[u32], index: usize) -> Yielded
-    ensures { λ r. ⌜ (r .rule ≡ nextAt (now (rules .entry)) index) × (r .index ≡ indexAfter (now (rules .entry)) index) ⌝ }
+    ensures { λ r. ⌜ (nextTold (r .rule) ≡ nextOf (now (rules .entry)) index) × (r .index ≡ indexAfter (now (rules .entry)) index) ⌝ }
 {
     let mut cursor = moved(new(rules), index);
     let rule = next(&mut cursor);

@@ -45,7 +45,7 @@ use denote.Triple.Entry.{Vals, onEntry}
 use denote.Triple.Spec.{Meets, tripleOf}
 use denote.Triple.Table.{entered, cited}
 use denote.Triple.Walked.{says, Stays, stay-ref, walkOf, goes-ref, Walks, ends-at, walked, walk-meets}
-use Rattle.cursor.specs.Yielding.{nextAt, indexAfter}
+use Rattle.cursor.specs.Yielding.{nextTold, nextOf, indexAfter}
 use Rattle.cursor.specs.declared.RuleCursor.{RuleCursor}
 use Rattle.cursor.specs.declared.NextRule.{NextRule}
 use Rattle.cursor.proofs.RuleCursor as T
@@ -145,8 +145,8 @@ module _ {M : Type 1} (𝓤 : URA M) (H : Heap 𝓤) (A : Atoms 𝓤) (W : Given
       move ! (2 ∷ 0 ∷ []) $ use2 W (raw (RuleAt 𝓤 H A at-mem run .pre to-rule)) asked $ frame ! $ done !)
 
   -- of each callee's `ensured`, the clause alone: neither has a `&mut`, so what is said of last values is dropped
-  rule-said : (r : NextRule) → ent 𝓤 (ensured 𝓤 H A rule-at.ended (rule-at.clauses 𝓤 H A at-mem run) (κ′, tt) (h .rules, (h .index, tt)) tt r) (fact 𝓤 (r ≡ nextAt (now (h .rules)) (h .index)))
-  rule-said r = exE 𝓤 _ (λ ws. snd∗ 𝓤 (sem 𝓤 H A (lasts rule-at.ended (κ′, tt) (h .rules, (h .index, tt)) ws)) (fact 𝓤 (r ≡ nextAt (now (h .rules)) (h .index))))
+  rule-said : (r : NextRule) → ent 𝓤 (ensured 𝓤 H A rule-at.ended (rule-at.clauses 𝓤 H A at-mem run) (κ′, tt) (h .rules, (h .index, tt)) tt r) (fact 𝓤 (nextTold r ≡ nextOf (now (h .rules)) (h .index)))
+  rule-said r = exE 𝓤 _ (λ ws. snd∗ 𝓤 (sem 𝓤 H A (lasts rule-at.ended (κ′, tt) (h .rules, (h .index, tt)) ws)) (fact 𝓤 (nextTold r ≡ nextOf (now (h .rules)) (h .index))))
 
   index-said : (n : ℕ) → ent 𝓤 (ensured 𝓤 H A index-after.ended (index-after.clauses 𝓤 H A at-mem run) (κ′, tt) (h .rules, (h .index, tt)) tt n) (fact 𝓤 (n ≡ indexAfter (now (h .rules)) (h .index)))
   index-said n = exE 𝓤 _ (λ ws. snd∗ 𝓤 (sem 𝓤 H A (lasts index-after.ended (κ′, tt) (h .rules, (h .index, tt)) ws)) (fact 𝓤 (n ≡ indexAfter (now (h .rules)) (h .index))))
@@ -155,7 +155,7 @@ module _ {M : Type 1} (𝓤 : URA M) (H : Heap 𝓤) (A : Atoms 𝓤) (W : Given
   again : (n : ℕ) → n < 2 ^ 64 → ent 𝓤 (sem 𝓤 H A Own) (sem 𝓤 H A (B κ′ .own (h′ n) (T′.lowered (h′ n) ∷ [])))
   again n ok = qed W (‵ Own ∷ []) ∵ owned ! usize (Is usize) (uint-makes 𝓤 H A W w64) n _ (refl, ok) $ move ! (1 ∷ 0 ∷ []) $ by ! (own-put 𝓤 H A W D L 1 vh n mach)
 
-  exits : (r : NextRule) (u : Val) (n : ℕ) → r ≡ nextAt (now (h .rules)) (h .index) → n ≡ indexAfter (now (h .rules)) (h .index)
+  exits : (r : NextRule) (u : Val) (n : ℕ) → nextTold r ≡ nextOf (now (h .rules)) (h .index) → n ≡ indexAfter (now (h .rules)) (h .index)
       → ent 𝓤 (⋆ 𝓤 H A (‵ (fobs γ (B κ′ .coded .code (h′ n))) ∷ ‵ (fbor κ (Body (mem (B κ′)) b o γ)) ∷ ‵ (flft κ q) ∷ (‵ (flft κ′ q′) ⊛ ‵ ftrue) ∷ ‵ (S.the-row .own r (u ∷ [])) ∷ [])) (Post u)
   exits r u n e e′ =
       qed W (‵ (fobs γ (B κ′ .coded .code (h′ n))) ∷ ‵ (fbor κ (Body (mem (B κ′)) b o γ)) ∷ ‵ (flft κ q) ∷ (‵ (flft κ′ q′) ⊛ ‵ ftrue) ∷ ‵ (S.the-row .own r (u ∷ [])) ∷ []) ∵
@@ -178,7 +178,7 @@ module _ {M : Type 1} (𝓤 : URA M) (H : Heap 𝓤) (A : Atoms 𝓤) (W : Given
         move ! (1 ∷ 5 ∷ []) $ use2 W (raw (RuleAt 𝓤 H A at-mem run .pre to-rule) ⊛ ‵ Own) (apart (was .1 .1 .1 .0 .1)) $ split ! $
         calls-at ! fm (RuleAt 𝓤 H A at-mem run) known-rule to-rule (and-then ! (load ! (from ! (stop !)) (look ! 10 refl)) (and-then ! (load ! (from ! (stop !)) (look ! 8 refl)) (no-more !))) (λ u.
         use1 W (later (some (λ (r : NextRule). ((‵ (flft κ′ q′) ⊛ ‵ ftrue) ⊛ ‵ (S.the-row .own r (u ∷ []))) ⊛ raw (ensured 𝓤 H A rule-at.ended (rule-at.clauses 𝓤 H A at-mem run) (κ′, tt) (h .rules, (h .index, tt)) tt r)))) (id⊢ 𝓤 _) $ await ! tt $ pick ! (λ r.
-        split ! $ move ! (1 ∷ []) $ use1 W (raw (fact 𝓤 (r ≡ nextAt (now (h .rules)) (h .index)))) (rule-said r) $ heard ! (r ≡ nextAt (now (h .rules)) (h .index)) (λ e. split ! $ move ! (1 ∷ []) $
+        split ! $ move ! (1 ∷ []) $ use1 W (raw (fact 𝓤 (nextTold r ≡ nextOf (now (h .rules)) (h .index)))) (rule-said r) $ heard ! (nextTold r ≡ nextOf (now (h .rules)) (h .index)) (λ e. split ! $ move ! (1 ∷ []) $
         -- [the rule; 'a's token; what the struct owns; its cell; the open borrow; obs; auth; _5; …; _4; …; _3; …; _2; …; _1; …; room for _0; …]
         peeks ! S.the-row (Is S.the-row) (shows 𝓤 H A S.the-row) r (u ∷ []) (λ is.
         land ! (from ! (stop !)) (init ! 13 refl (EL.lawful S.the-type S′.the-laws 𝓤 H A W tt .typed r _ is .0)) $

@@ -1,4 +1,4 @@
--- `cursor::rule_at` meets its contract: each branch's test says which case of `nextAt` holds.
+-- `cursor::rule_at` meets its contract: each branch's test says which case of `nextOf` holds.
 -- Assumes nothing.
 use borrow.Author.Needs.{needs}
 use mathlib.Core.Path.{sym}

@@ -48,7 +48,7 @@ use denote.Triple.Spec.{Meets, tripleOf}
 use denote.Triple.Table.{entered, cited}
 use denote.Triple.Walked.{says, Stays, stay-none, stay-none-slice, walkOf, goes-none, goes-none-slice, Walks, ends-at, walked, walk-meets}
 use denote.Exit.{yes}
-use Rattle.cursor.specs.Yielding.{nextAt, indexAfter}
+use Rattle.cursor.specs.Yielding.{nextTold, nextOf, indexAfter}
 use Rattle.cursor.specs.declared.RuleCursor.{RuleCursor}
 use Rattle.cursor.specs.declared.NextRule.{NextRule}
 use Rattle.cursor.specs.declared.Yielded.{Yielded}
@@ -95,7 +95,7 @@ module _ {M : Type 1} (𝓤 : URA M) (H : Heap 𝓤) (A : Atoms 𝓤) (mem : Mem
 
 -- what `next` says of a cursor d: the rule t, and the cursor z afterwards
 abbrev Said : RuleCursor → NextRule → RuleCursor → Type 0
-Said d t z = (t ≡ nextAt (now (d .rules)) (d .index)) × (z .rules ≡ d .rules) × (z .index ≡ indexAfter (now (d .rules)) (d .index))
+Said d t z = (nextTold t ≡ nextOf (now (d .rules)) (d .index)) × (z .rules ≡ d .rules) × (z .index ≡ indexAfter (now (d .rules)) (d .index))
 
 module _ {M : Type 1} (𝓤 : URA M) (H : Heap 𝓤) (A : Atoms 𝓤) (W : Given 𝓤 H A) (at-mem : Memory → SProp 𝓤) (run : Routine → Fun 𝓤) (κ : Lft) (q : Share) (s : RefT (List ℕ)) (i : ℕ) (ok : i < 2 ^ 64) where
   -- the machine value that s has
@@ -167,7 +167,7 @@ module _ {M : Type 1} (𝓤 : URA M) (H : Heap 𝓤) (A : Atoms 𝓤) (W : Given
   goes-next d l ν γ = qed W (‵ (flft (ν ∷ κ) (PosShare·left q)) ∷ ‵ (flft κ (PosShare·right q)) ∷ ‵ (MutRef (named 0) (ν ∷ κ) R .own (ref d l γ) (vptr l 0 ∷ [])) ∷ []) ∵
       nothing ! $ move ! (3 ∷ 0 ∷ []) $ fjoin ! $ nothing ! $ move ! (3 ∷ 0 ∷ []) $ join ! $ move ! (2 ∷ 0 ∷ []) $ join ! $ join ! $ frame ! $ done !
 
-  exits : (r : Yielded) (u : Val) → Is Y.the-row r (u ∷ []) → (r .rule ≡ nextAt (now s) i) × (r .index ≡ indexAfter (now s) i) → ent 𝓤 (⋆ 𝓤 H A (‵ (flft κ q) ∷ ‵ Own ∷ [])) (Post u)
+  exits : (r : Yielded) (u : Val) → Is Y.the-row r (u ∷ []) → (nextTold (r .rule) ≡ nextOf (now s) i) × (r .index ≡ indexAfter (now s) i) → ent 𝓤 (⋆ 𝓤 H A (‵ (flft κ q) ∷ ‵ Own ∷ [])) (Post u)
   exits r u is e =
       qed W (‵ (flft κ q) ∷ ‵ Own ∷ []) ∵
       suffices ! _ (ends-at 𝓤 H A step.ended stayed (step.clauses 𝓤 H A at-mem run) W (((κ, tt), (q, tt), tt, (s, (i, tt)), at), tt) u r (tt, (tt, tt)) (tt, (tt, tt))) $ says ! e $
@@ -185,9 +185,9 @@ module _ {M : Type 1} (𝓤 : URA M) (H : Heap 𝓤) (A : Atoms 𝓤) (W : Given
   made-is t y z is fits = ((y ∷ [], (vint w64 (z .index) ∷ [], tt)), (refl, (is, ((refl, fits), tt))))
 
   -- what is said of the calls, one after the other
-  told : (r d z : RuleCursor) (t : NextRule) → (r .rules ≡ s) × (r .index ≡ 0) → (d .rules ≡ r .rules) × (d .index ≡ i) → Said d t z → (t ≡ nextAt (now s) i) × (z .index ≡ indexAfter (now s) i)
+  told : (r d z : RuleCursor) (t : NextRule) → (r .rules ≡ s) × (r .index ≡ 0) → (d .rules ≡ r .rules) × (d .index ≡ i) → Said d t z → (nextTold t ≡ nextOf (now s) i) × (z .index ≡ indexAfter (now s) i)
   told r d z t e₁ e₂ e₃ = (
-    e₃ .0 ∙ (ap (λ (x : RefT (List ℕ)). nextAt (now x) (d .index)) (e₂ .0 ∙ e₁ .0) ∙ ap (nextAt (now s)) (e₂ .1)),
+    e₃ .0 ∙ (ap (λ (x : RefT (List ℕ)). nextOf (now x) (d .index)) (e₂ .0 ∙ e₁ .0) ∙ ap (nextOf (now s)) (e₂ .1)),
     e₃ .2 ∙ (ap (λ (x : RefT (List ℕ)). indexAfter (now x) (d .index)) (e₂ .0 ∙ e₁ .0) ∙ ap (indexAfter (now s)) (e₂ .1)),
   )
 
