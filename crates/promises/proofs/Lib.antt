@@ -5,6 +5,7 @@ pub mod Demand1Rest
 pub mod Along
 pub mod Listed
 pub mod Calls
+pub mod Cursor
 pub mod Places
 pub mod Winning
 pub mod Changing
