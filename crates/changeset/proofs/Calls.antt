@@ -1,19 +1,30 @@
 -- The ways out of the calls: a law for each. Assumes nothing.
-use mathlib.Core.Path.{_≡_, sym, ap, _∙_}
-use mathlib.Core.List.{List, [], _∷_, _++_, append-nil}
+use mathlib.Core.Path.{_≡_, refl, sym, ap, _∙_}
+use mathlib.Core.List.{List, [], _∷_, _++_, append-nil, List·Memᴰ·head, List·Memᴰ·not-nil}
 use Prim.Native.Nat.{ℕ, _≤_, _<_}
 use native.Mathlib.Omega.{arith}
 use lib.ListN.{length, take, replicate}
-use lib.Seq.{sets}
+use lib.Seq.{sets, length-take-le}
 use lib.Dec.{eqb}
 use borrow.Author.Tests.{lt-ltb, le-ltb, eq-eqb, ne-eqb}
-use Rattle.theory.specs.Lists.{sort}
+use Rattle.theory.specs.Lists.{_∈_, sort}
+use Rattle.theory.proofs.Lists.{sort-in}
 use Rattle.lent.specs.Refusals.{told, answered, firstOf}
 use Rattle.lent.specs.declared.Refusal.{Refusal}
 use Rattle.changeset.specs.Marks.{idsIn}
 use Rattle.changeset.specs.Sets.{oneIf, tooShort, Lists, setOf, unionOf, setVerdict, unionVerdict, countVerdict}
 use Rattle.changeset.specs.declared.Changing.{Changing}
 use Rattle.changeset.proofs.Marks.{ids-none, sort-join}
+
+-- ---- a set of some ids has some
+
+there : (l : List ℕ) (c : ℕ) → c ∈ l → 0 < length l
+there [] c m = absurd (List·Memᴰ·not-nil m)
+there (a ∷ l) c m = omega arith
+
+sort-some : (l : List ℕ) → 0 < length l → 0 < length (sort l)
+sort-some [] h = absurd (omega arith)
+sort-some (a ∷ l) h = there (sort (a ∷ l)) a (sort-in (a ∷ l) a .1 (List·Memᴰ·head refl))
 
 -- ---- a count against its list
 
@@ -30,11 +41,13 @@ module _ (ids : List ℕ) (n : ℕ) where
   unfolding countVerdict firstOf
   count-set l h e f = rw (le-ltb (length ids) n h, f, e, ids-none, append-nil (take n ids))
 
-  pub count-none : n ≤ length ids → n ≡ 0 → 0 ∷ 1 ∷ [] ≡ answered (countVerdict ids n) (0 ∷ oneIf (eqb n 0) ∷ [])
-  count-none h z = rw (eq-eqb n 0 z) (count-told (0 ∷ 1 ∷ []) h)
+  pub count-none : n ≤ length ids → n ≡ 0 → 0 ∷ 1 ∷ [] ≡ answered (countVerdict ids n) (0 ∷ oneIf (eqb (length (setOf ids n)) 0) ∷ [])
+  count-none h z = let e : length (setOf ids n) ≡ 0 = rw z (unfold sort in refl) in rw (eq-eqb (length (setOf ids n)) 0 e) (count-told (0 ∷ 1 ∷ []) h)
 
-  pub count-some : n ≤ length ids → (n ≡ 0 → ⊥) → 0 ∷ 0 ∷ [] ≡ answered (countVerdict ids n) (0 ∷ oneIf (eqb n 0) ∷ [])
-  count-some h z = rw (ne-eqb n 0 z) (count-told (0 ∷ 0 ∷ []) h)
+  pub count-some : n ≤ length ids → (n ≡ 0 → ⊥) → 0 ∷ 0 ∷ [] ≡ answered (countVerdict ids n) (0 ∷ oneIf (eqb (length (setOf ids n)) 0) ∷ [])
+  count-some h z =
+      let some = sort-some (take n ids) (omega (arith, length-take-le n ids h, z)) in
+      rw (ne-eqb (length (setOf ids n)) 0 (λ e. omega (arith, some, e))) (count-told (0 ∷ 0 ∷ []) h)
 
 -- ---- a list into a buffer
 

@@ -63,7 +63,7 @@ pub fn len(ids: &[u16], n: usize) -> Changing
 
 // `StyleChangeSet::is_empty`
 pub fn is_empty(ids: &[u16], count: usize) -> Emptiness
-    ensures { λ r. ⌜ emptinessTold r ≡ answered (countVerdict (now (ids .entry)) count) (0 ∷ oneIf (eqb count 0) ∷ []) ⌝ }
+    ensures { λ r. ⌜ emptinessTold r ≡ answered (countVerdict (now (ids .entry)) count) (0 ∷ oneIf (eqb (length (setOf (now (ids .entry)) count)) 0) ∷ []) ⌝ }
 {
     if ids.len() < count {
         return Emptiness::Refused(Refusal::OverSize);

@@ -10,12 +10,9 @@ use Rattle.channels.specs.declared.Lowest.{Lowest}
 use Rattle.channels.specs.declared.Lowest.the-variants as lowest
 
 -- "The channel set is the union of the u32 masks of the changed properties, from a lent table by id; past its end the mask is 0"
-abbrev pub unionFrom : ℕ → List ℕ → List ℕ → ℕ
-unionFrom set masks [] = set
-unionFrom set masks (p ∷ ids) = unionFrom (bitOr set (getD masks p 0)) masks ids
-
 unfoldable pub channelsOf : List ℕ → List ℕ → ℕ
-channelsOf masks ids = unionFrom 0 masks ids
+channelsOf masks [] = 0
+channelsOf masks (p ∷ ids) = bitOr (getD masks p 0) (channelsOf masks ids)
 
 -- "Report .. which is lowest; with none there is no lowest": 1 and the channel, or 0
 abbrev pub lowestTold : Lowest → List ℕ
