@@ -16,7 +16,8 @@ use Rattle.lent.specs.Buffers.{Holds}
 use Rattle.lent.proofs.Buffers.{held-take}
 use Rattle.selector.specs.Tags.{Tags, stepMatches}
 use Rattle.table.specs.Tables.{selectorsOf}
-use Rattle.advance.specs.Advancing.{leaves, lists, Advanced, Room, Free, Puts, Walks, First, Turned}
+use Rattle.advance.specs.Advancing.{leaves, lists, Advanced, Room}
+use Rattle.advance.specs.Collecting.{Free, Puts, Walks, First, Turned}
 use Rattle.advance.proofs.Putting.{past-later}
 use Rattle.advance.proofs.Cursors.{one-free}
 use Rattle.advance.proofs.Walking.{Step, step-first, step-swap, skip-same, walk-start, walk-free, walk-next, walk-skip, walk-end}

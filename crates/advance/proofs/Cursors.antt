@@ -25,7 +25,8 @@ use Rattle.sheet.proofs.Readers.{step-sets}
 use Rattle.sheet.proofs.Answers.{between-past}
 use Rattle.table.specs.Tables.{selectorsOf}
 use Rattle.table.proofs.Selectors.{selector-past, selector-at, selector-length, selector-part}
-use Rattle.advance.specs.Advancing.{leaves, lists, Free, Put, Kept, Puts}
+use Rattle.advance.specs.Advancing.{leaves, lists}
+use Rattle.advance.specs.Collecting.{Free, Put, Kept, Puts}
 use Rattle.advance.proofs.Putting.{put-none, put-then, put-free}
 
 -- ---- one step

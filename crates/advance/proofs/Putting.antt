@@ -13,7 +13,7 @@ use lib.Dec.{ltb, eqb}
 use borrow.Author.Tests.{lt-ltb, eq-eqb, ne-eqb, ltb-true, eqb-true}
 use Rattle.theory.specs.Lists.{_∈_, Ascending, insert, sort, only}
 use Rattle.theory.proofs.Lists.{and-left, and-right, append-in, only-in, ascending-ext, insert-skip, sort-in, sort-ascending, sort-snoc, sort-length}
-use Rattle.advance.specs.Advancing.{Free, Put}
+use Rattle.advance.specs.Collecting.{Free, Put}
 
 -- ---- sorted lists
 

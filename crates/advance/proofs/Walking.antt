@@ -12,7 +12,7 @@ use lib.Seq.{length-take-le, drop-cons}
 use Rattle.theory.specs.Lists.{_∈_, Ascending, ascends, sort}
 use Rattle.theory.proofs.Lists.{append-in, flatMap-in, sort-in, sort-ascending, ascends-is}
 use Rattle.lent.proofs.Ascending.{ascends-drop}
-use Rattle.advance.specs.Advancing.{Free, Put, Walk, First}
+use Rattle.advance.specs.Collecting.{Free, Put, Walk, First}
 use Rattle.advance.proofs.Putting.{sort-ext, sort-ascended, ascending-length}
 
 -- ---- a step: the cursor c is taken, and all that are left are above it

@@ -19,7 +19,8 @@ ghost use Rattle.selector.specs.Rows.{rowAt};
 ghost use Rattle.selector.specs.Checks.{tagsAscend};
 ghost use Rattle.sheet.specs.Layout.{stepsIn, stepPlace, STEP-COMBINATOR, STEP-WORDS};
 ghost use Rattle.sheet.specs.Shape.{sheetShape};
-ghost use Rattle.advance.specs.Advancing.{leaves, lists, Advanced, Room, Free, Put, Kept, Puts, Walks, First, Turned};
+ghost use Rattle.advance.specs.Advancing.{leaves, lists, Advanced, Room};
+ghost use Rattle.advance.specs.Collecting.{Free, Put, Kept, Puts, Walks, First, Turned};
 
 // How many cursors and how many rules.
 pub struct Counts {

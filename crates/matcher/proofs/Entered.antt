@@ -15,13 +15,13 @@ use Rattle.selector.specs.Rows.{rowAt}
 use Rattle.sheet.specs.Shape.{sheetShape}
 use Rattle.table.specs.Tables.{table, selectorsOf, statesIn, cursorsAt, stateAt, childAt}
 use Rattle.table.specs.Shape.{rootCursors, tableShape}
-use Rattle.table.specs.Entering.{cached, nextState, numberIn, lacksRoom, childOf, entered, kept}
+use Rattle.table.specs.Entering.{cached, nextState, numberIn, stateLacksRoom, lacksRoom, childOf, entered, kept}
 use Rattle.table.proofs.Same.{same-is}
 use Rattle.table.proofs.Shaped.{shaped}
 use Rattle.advance.specs.Advancing.{Advanced, Room}
 use Rattle.advance.proofs.Range.{room-few, room-many}
 use Rattle.advance.proofs.Advanced.{advanced-state}
-use Rattle.settle.specs.Settling.{state, unsettled, Settles}
+use Rattle.settle.specs.Settling.{state, Settles}
 use Rattle.settle.specs.declared.Settled.{Settled}
 use Rattle.settle.specs.declared.Settled.the-variants.{At, NoRoom}
 use Rattle.matcher.specs.Answers.{Enters, Parents}
@@ -98,7 +98,7 @@ module _ (w h s c m tr row : List ℕ) (p link : ℕ) (e : link ≡ cached h s t
 
   module _ (z : link ≡ 0) (r : Settled) (h′ s′ c′ m′ : List ℕ)
       (u : (t : List ℕ) → Settles (table h s c m t) (nextState w (table h s c m t) p (rowAt 16 row 0)) r (table h′ s′ c′ m′ t)) where
-    lacks : lacksRoom w (table h s c m tr) p row ≡ unsettled (table h s c m tr) (nextState w (table h s c m tr) p (rowAt 16 row 0))
+    lacks : lacksRoom w (table h s c m tr) p row ≡ stateLacksRoom (table h s c m tr) (nextState w (table h s c m tr) p (rowAt 16 row 0))
     unfolding lacksRoom
     lacks = rw (← e, z)
 
@@ -109,7 +109,7 @@ module _ (w h s c m tr row : List ℕ) (p link : ℕ) (e : link ≡ cached h s t
     entered-new child f h″ s″ t″ k =
         let t = table h s c m tr in
         let x = nextState w t p (rowAt 16 row 0) in
-        let (o, q) = told-at (unsettled t x) (numberIn t x) child (sym f ∙ u tr .answer) in
+        let (o, q) = told-at (stateLacksRoom t x) (numberIn t x) child (sym f ∙ u tr .answer) in
         let held = rw o at (u tr .memory) in
         record { answer = rw (lacks, o, ← e, z, q); memory = rw (lacks, o, ← e, z, ← held, ← q) (k c′ m′) }
 
@@ -118,5 +118,5 @@ module _ (w h s c m tr row : List ℕ) (p link : ℕ) (e : link ≡ cached h s t
     entered-none f =
         let t = table h s c m tr in
         let x = nextState w t p (rowAt 16 row 0) in
-        let o = told-none (unsettled t x) (numberIn t x) (sym f ∙ u tr .answer) in
+        let o = told-none (stateLacksRoom t x) (numberIn t x) (sym f ∙ u tr .answer) in
         record { answer = rw (lacks, o); memory = rw (lacks, o) (rw o at (u tr .memory)) }

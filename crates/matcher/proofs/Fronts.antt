@@ -7,7 +7,7 @@ use native.Mathlib.Omega.{arith}
 use lib.Dec.{eqb}
 use borrow.Author.Tests.{ne-eqb, ltb-true, not-true, not-false}
 use Rattle.theory.proofs.Lists.{and-left, and-right, or-second}
-use Rattle.lent.specs.Refusals.{refusalOf, Check, check, firstOf}
+use Rattle.lent.specs.Refusals.{refusalOf, check, firstOf}
 use Rattle.lent.specs.declared.Refusal.{Refusal}
 use Rattle.lent.proofs.Refusals.{first-stop, first-go, first-clear, told-first}
 use Rattle.selector.specs.Rows.{rowAt}
@@ -16,7 +16,7 @@ use Rattle.sheet.specs.Shape.{sheetShape}
 use Rattle.table.specs.Tables.{Table, table, statesIn, stampIn}
 use Rattle.table.specs.Shape.{tableShape}
 use Rattle.table.specs.Entering.{lacksRoom, childOf}
-use Rattle.table.specs.Calls.{broken, notAState, stateVerdict, enterVerdict}
+use Rattle.table.specs.Calls.{broken, notAState, stateChecks, subjectChecks, stateVerdict, enterVerdict}
 use Rattle.settle.specs.declared.Settled.{Settled}
 use Rattle.settle.specs.declared.Settled.the-variants.{At, NoRoom}
 use Rattle.matcher.specs.Answers.{Enter, Enters, frontVerdict}
@@ -26,22 +26,16 @@ use Rattle.matcher.proofs.Entered.{told-at, told-none}
 module _ (w : List ℕ) (t : Table) (number stamp : ℕ) where
   -- ---- the first four refusals: of the state, then of the row
 
-  abbrev ofState : List Check
-  ofState = check 11 (broken w t) ∷ check 4 (notAState (t .head) number stamp) ∷ []
-
   module _ (row : List ℕ) where
-    abbrev ofRow : List Check
-    ofRow = check 2 (not (rowFits 16 row 0)) ∷ check 1 (not (tagsAscend (rowAt 16 row 0))) ∷ []
-
     module _ (v : ℕ) (e : v ≡ stateVerdict w t number stamp) where
       pub front-state : (v ≡ 0 → ⊥) → v ≡ frontVerdict w t number stamp row
       unfolding stateVerdict frontVerdict
-      front-state h = first-stop ofState ofRow v e h
+      front-state h = first-stop (stateChecks w t number stamp) (subjectChecks row) v e h
 
       module _ (z : v ≡ 0) where
-        front-row : (r : ℕ) → r ≡ firstOf ofRow → r ≡ frontVerdict w t number stamp row
+        front-row : (r : ℕ) → r ≡ firstOf (subjectChecks row) → r ≡ frontVerdict w t number stamp row
         unfolding stateVerdict frontVerdict
-        front-row r f = first-go ofState ofRow v r e z refl f
+        front-row r f = first-go (stateChecks w t number stamp) (subjectChecks row) v r e z refl f
 
         module _ (b : Bool) (f : b ≡ rowFits 16 row 0) where
           pub front-over : b ≡ false → 2 ≡ frontVerdict w t number stamp row

@@ -1,21 +1,19 @@
 -- What the calls on a table answer, and the memory with it. Assumes nothing.
 use mathlib.Core.Path.{_≡_}
-use mathlib.Core.Bool.{true, cond, not}
-use mathlib.Core.List.{List, [], _∷_}
+use mathlib.Core.Bool.{true, cond}
+use mathlib.Core.List.{List, [], _∷_, _++_}
 use Prim.Native.Nat.{ℕ, _+_, _*_}
 use lib.Dec.{eqb}
 use denote.Ref.{RefT}
 use Rattle.theory.specs.Lists.{ascends}
 use Rattle.lent.specs.Pool.{startOf}
-use Rattle.lent.specs.Refusals.{told, answered, check, firstOf}
-use Rattle.selector.specs.Rows.{rowAt}
-use Rattle.selector.specs.Checks.{rowFits, tagsAscend}
+use Rattle.lent.specs.Refusals.{told, answered, firstOf}
 use Rattle.settle.specs.declared.Settled.{Settled}
 use Rattle.settle.specs.declared.Settled.the-variants.{At, NoRoom}
 use Rattle.table.specs.Tables.{Table, cursorsAt, matchedEnds, matchedAt}
 use Rattle.table.specs.Shape.{rootCursors}
 use Rattle.table.specs.Entering.{built, lacksRoom, childOf, entered}
-use Rattle.table.specs.Calls.{broken, notAState, stateVerdict, buildVerdict, enterVerdict}
+use Rattle.table.specs.Calls.{stateChecks, subjectChecks, stateVerdict, buildVerdict, enterVerdict}
 use Rattle.matcher.specs.declared.Building.{Building}
 use Rattle.matcher.specs.declared.Entering.{Entering}
 use Rattle.matcher.specs.declared.Listing.{Listing}
@@ -58,7 +56,7 @@ pub record Rules (w : List ℕ) (t : Table) (number stamp : ℕ) (whole part : R
   pub block : part .ptr .0 ≡ whole .ptr .0
   pub place : part .ptr .1 ≡ whole .ptr .1 + 4 * cond (eqb (stateVerdict w t number stamp) 0) (startOf (matchedEnds (t .states)) number) 0
 
--- ---- within: entering without the first four refusals, and these alone
+-- ---- for contracts within and cores alone: entering without the first four refusals, and these alone
 
 -- what working out the next state relies on: the root's cursors are those of build, and the parent's and the root's ascend
 pub record Parents (w states cursors : List ℕ) (parent : ℕ) : Type 0 where
@@ -71,5 +69,4 @@ pub record Enters (w : List ℕ) (t : Table) (parent : ℕ) (row : List ℕ) (r 
   pub memory : t′ ≡ cond (lacksRoom w t parent row) t (entered w t parent row)
 
 unfoldable pub frontVerdict : List ℕ → Table → ℕ → ℕ → List ℕ → ℕ
-frontVerdict w t number stamp row =
-    firstOf (check 11 (broken w t) ∷ check 4 (notAState (t .head) number stamp) ∷ check 2 (not (rowFits 16 row 0)) ∷ check 1 (not (tagsAscend (rowAt 16 row 0))) ∷ [])
+frontVerdict w t number stamp row = firstOf (stateChecks w t number stamp ++ subjectChecks row)

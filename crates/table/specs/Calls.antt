@@ -1,9 +1,9 @@
 -- When a call on a table is refused: 01's table and its "Order". Assumes nothing.
 use mathlib.Core.Bool.{Bool, _&&_, _||_, not}
-use mathlib.Core.List.{List, [], _∷_}
+use mathlib.Core.List.{List, [], _∷_, _++_}
 use Prim.Native.Nat.{ℕ}
 use lib.Dec.{ltb, eqb}
-use Rattle.lent.specs.Refusals.{check, firstOf}
+use Rattle.lent.specs.Refusals.{Check, check, firstOf}
 use Rattle.selector.specs.Rows.{rowAt}
 use Rattle.selector.specs.Checks.{rowFits, tagsAscend}
 use Rattle.sheet.specs.Shape.{sheetShape}
@@ -23,17 +23,16 @@ notAState head number stamp = not (eqb stamp (Tables.stampIn head)) || not (ltb 
 unfoldable pub buildVerdict : List ℕ → ℕ → List ℕ → List ℕ → ℕ
 buildVerdict w ranking states cursors = firstOf (check 11 (not (sheetShape w)) ∷ check 6 (ltb 1 ranking) ∷ check 5 (rootLacksRoom w states cursors) ∷ [])
 
--- "Matched list .. 11, 4."
+-- "Matched list and winner 11, 4."
+abbrev pub stateChecks : List ℕ → Tables.Table → ℕ → ℕ → List Check
+stateChecks w t number stamp = check 11 (broken w t) ∷ check 4 (notAState (t .head) number stamp) ∷ []
+
 unfoldable pub stateVerdict : List ℕ → Tables.Table → ℕ → ℕ → ℕ
-stateVerdict w t number stamp = firstOf (check 11 (broken w t) ∷ check 4 (notAState (t .head) number stamp) ∷ [])
+stateVerdict w t number stamp = firstOf (stateChecks w t number stamp)
 
 -- "entering 11, 4, 2, 1, 5"; the subject is a row of 38 words
+abbrev pub subjectChecks : List ℕ → List Check
+subjectChecks row = check 2 (not (rowFits 16 row 0)) ∷ check 1 (not (tagsAscend (rowAt 16 row 0))) ∷ []
+
 unfoldable pub enterVerdict : List ℕ → Tables.Table → ℕ → ℕ → List ℕ → ℕ
-enterVerdict w t number stamp row =
-    firstOf
-    (check 11 (broken w t)
-    ∷ check 4 (notAState (t .head) number stamp)
-    ∷ check 2 (not (rowFits 16 row 0))
-    ∷ check 1 (not (tagsAscend (rowAt 16 row 0)))
-    ∷ check 5 (lacksRoom w t number row)
-    ∷ [])
+enterVerdict w t number stamp row = firstOf (stateChecks w t number stamp ++ (subjectChecks row ++ check 5 (lacksRoom w t number row) ∷ []))

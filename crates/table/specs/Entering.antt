@@ -158,11 +158,13 @@ unfoldable pub holding : Tables.Table → State → Tables.Table
 holding t s = cond (ltb (numberIn t s) (Tables.statesIn (t .head))) t (grown t s)
 
 -- "a new state not yet held, lacks a state place (none counts past 512), cursor room or matched room"
+abbrev pub stateLacksRoom : Tables.Table → State → Bool
+stateLacksRoom t s = not (ltb (numberIn t s) (Tables.statesIn (t .head))) && not (roomIn t s)
+
 unfoldable pub lacksRoom : List ℕ → Tables.Table → ℕ → List ℕ → Bool
 lacksRoom w t p row =
     let x = rowAt 16 row 0 in
-    let s = nextState w t p x in
-    eqb (cachedIn t p x) 0 && (not (ltb (numberIn t s) (Tables.statesIn (t .head))) && not (roomIn t s))
+    eqb (cachedIn t p x) 0 && stateLacksRoom t (nextState w t p x)
 
 -- The child's number
 unfoldable pub childOf : List ℕ → Tables.Table → ℕ → List ℕ → ℕ
