@@ -1,6 +1,6 @@
 -- Only properties of rules that are listed on one side alone can change; so those that change are found among these. Assumes nothing.
 use mathlib.Core.Path.{_≡_, refl, sym, ap, _∙_}
-use mathlib.Core.Logic.{_⊎_, inl, inr, _↔_}
+use mathlib.Core.Logic.{_⊎_, inl, inr, _↔_, Iff·trans}
 use mathlib.Core.Bool.{Bool, true, false, cond, not, true≢false}
 use mathlib.Core.List.{List, [], _∷_, _++_, map, List·Memᴰ·cases-cons, List·Memᴰ·not-nil, Memᴰ·map, Memᴰ·of-map, Memᴰ·append-left, Memᴰ·append-right}
 use Prim.Native.Nat.{ℕ, suc, _+_, _-_, _≤_, _<_}
@@ -49,13 +49,7 @@ asked-in : (w old new : List ℕ) (p : ℕ) → (p ∈ asked w old new) ↔ ((p 
 asked-in w old new p =
     let a = propertiesWithout w old new in
     let b = propertiesWithout w new old in
-    let i = sort-in (b ++ sort (a ++ [])) p in
-    let j = append-in b (sort (a ++ [])) p in
-    let k = sort-in (a ++ []) p in
-    let l = append-in a [] p in (
-      λ h. elim (j .0 (i .0 h)) [ inl m ↦ inr m | inr m ↦ elim (l .0 (k .0 m)) [ inl n ↦ inl n | inr n ↦ absurd (List·Memᴰ·not-nil n) ] ],
-      elim [ inl m ↦ i .1 (j .1 (inr (k .1 (l .1 (inl m))))) | inr m ↦ i .1 (j .1 (inl m)) ],
-    )
+    Iff·trans (sort-in (a ++ b) p) (append-in a b p)
 
 -- whether the winning key differs, by the two winners
 pub differs-is : (w old new : List ℕ) (ranking p : ℕ) (a c : Best) (b : Bool) → Stands w ranking p (winnerOf w ranking old p) a → Stands w ranking p (winnerOf w ranking new p) c

@@ -18,6 +18,7 @@ use Rattle.sheet.specs.Shape.{sheetShape}
 use Rattle.sheet.proofs.Shaped.{Shaped, shaped, entries-rising}
 use Rattle.laid.proofs.Reading.{getD-in}
 use Rattle.winners.specs.Winners.{AreRules}
+use Rattle.changeset.proofs.Marks.{sort-join}
 use Rattle.changes.specs.Changes.{changedOf}
 use Rattle.changes.specs.Asked.{keep, asked, differing, Listed}
 use Rattle.changes.specs.Within.{propertiesOf, propertiesWithout}
@@ -80,6 +81,12 @@ module _ {w : List ℕ} (s : Shaped w) (old new : List ℕ) (a : AreRules w old)
       let two : sumBelow f n + sumBelow g n ≤ sumBelow h n = sum-two f g h n (λ r. one-side (propertiesOf w r) (h r) (member r old) (member r new) (properties-length w r)) in
       rw (without-length old new a p, without-length new old b q) (omega (arith, two, sum-ends (ruleEntryEnds w) n (entries-rising s), s .entries-end, s .entries))
 
+  pub asked-fits : length (asked w old new) ≤ 4096
+  asked-fits =
+      let a = propertiesWithout w old new in
+      let b = propertiesWithout w new old in
+      omega (arith, asked-room, sort-length (a ++ b), length-append a b)
+
 -- ---- the two calls that gather them
 
 module _ (w old new : List ℕ) (s : sheetShape w ≡ true) (are : AreRules w old × AreRules w new) (up : (ascends old ≡ true) × (ascends new ≡ true)) where
@@ -105,10 +112,9 @@ module _ (w old new : List ℕ) (s : sheetShape w ≡ true) (are : AreRules w ol
     all-listed {f} {all} k =
         let a = propertiesWithout w old new in
         let b = propertiesWithout w new old in
-        let k′ : Holds (asked w old new) e all f = rw (held-take h) at k in
-        let n : length (b ++ sort (a ++ [])) ≡ length b + some = length-append b (sort (a ++ [])) ∙ ap (λ x. length b + x) (sym (h .count)) in
-        let few : all ≤ 4096 = omega (arith, room, some-few, k′ .count, sort-length (b ++ sort (a ++ [])), n) in
-        record { few = few; count = k′ .count; are = held-take k′ }
+        let k′ : Holds (asked w old new) e all f = rw (held-take h, append-nil a, sort-join a b) at k in
+        let few = asked-fits (shaped w s) old new (are .0) (are .1) (up .0) (up .1) in
+        record { few = omega (arith, few, k′ .count); count = k′ .count; are = held-take k′ }
 
 pub listed-count : {w old new : List ℕ} {all : ℕ} {f : List ℕ} → Listed w old new all f → all ≡ length (take all f)
 listed-count l = l .count ∙ ap length (sym (l .are))

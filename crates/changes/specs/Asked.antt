@@ -16,7 +16,7 @@ keep f (a ∷ l) = cond (f a) (a ∷ keep f l) (keep f l)
 
 -- the properties of rules that are listed on one side only, ascending
 abbrev pub asked : List ℕ → List ℕ → List ℕ → List ℕ
-asked w old new = sort (propertiesWithout w new old ++ sort (propertiesWithout w old new ++ []))
+asked w old new = sort (propertiesWithout w old new ++ propertiesWithout w new old)
 
 -- that the winning key differs, as a test
 abbrev pub differing : List ℕ → ℕ → List ℕ → List ℕ → ℕ → Bool

@@ -2,16 +2,14 @@
 use mathlib.Core.Path.{_≡_, refl, sym, ap, _∙_}
 use mathlib.Core.Bool.{true, false, _||_}
 use mathlib.Core.Option.{Option}
-use mathlib.Core.List.{List, [], _++_, append-nil}
+use mathlib.Core.List.{List}
 use Prim.Native.Nat.{ℕ, _+_, _-_, _≤_, _<_}
 use native.Mathlib.Decide.{decLt}
 use native.Mathlib.Omega.{arith}
-use lib.ListN.{length, take, drop, replicate, length-append, length-take, length-drop, length-replicate}
+use lib.ListN.{length, take, drop, replicate, length-take, length-drop, length-replicate}
 use lib.Seq.{sets, sets-eq, take-at}
 use lib.Dec.{eqb, ltb}
 use borrow.Author.Tests.{lt-ltb, le-ltb, eq-eqb, ne-eqb}
-use Rattle.theory.specs.Lists.{sort}
-use Rattle.theory.proofs.Lists.{sort-length}
 use Rattle.lent.specs.Pool.{listAt}
 use Rattle.lent.specs.Buffers.{Holds}
 use Rattle.lent.specs.Refusals.{firstOf}
@@ -33,10 +31,9 @@ use Rattle.winners.specs.Winners.{Place}
 use Rattle.winners.specs.Best.{Stands}
 use Rattle.winners.specs.declared.Best.{Best}
 use Rattle.changes.specs.Asked.{asked, differing}
-use Rattle.changes.specs.Within.{propertiesWithout}
 use Rattle.changes.proofs.Keep.{keep-length}
 use Rattle.changes.proofs.Asked.{changed-asked}
-use Rattle.changes.proofs.Room.{asked-room}
+use Rattle.changes.proofs.Room.{asked-fits}
 use Rattle.cascade.specs.Calls.{rulesAt, winnerIn, changedIn, changedVerdict}
 use Rattle.cascade.proofs.Listed.{rules-are, rules-rise}
 use Rattle.covered.specs.Covered.{Covered}
@@ -186,9 +183,6 @@ module _ (w h s c m tr items : List ℕ) (g : Ready w (table h s c m tr) items) 
 
 -- ---- changed properties as words
 
-gathered-few : (a b : List ℕ) → length (sort (b ++ sort (a ++ []))) ≤ length a + length b
-gathered-few a b = rw (append-nil a) (omega (arith, sort-length (b ++ sort a), length-append b (sort a), sort-length a))
-
 module _ {w h s c m tr : List ℕ} (g : Covered w (table h s c m tr)) {old new : ℕ} (below : old < statesIn h) (below′ : new < statesIn h) where
   -- "4,096 .. changed properties": no more can change
   changed-few : length (changedIn w (table h s c m tr) old new) ≤ 4096
@@ -199,10 +193,9 @@ module _ {w h s c m tr : List ℕ} (g : Covered w (table h s c m tr)) {old new :
       let b = rules-are w h s c m tr e new below′ (rulesAt t new) refl in
       let i = rules-rise w h s c m tr e old below (rulesAt t old) refl in
       let j = rules-rise w h s c m tr e new below′ (rulesAt t new) refl in
-      let few = gathered-few (propertiesWithout w (rulesAt t old) (rulesAt t new)) (propertiesWithout w (rulesAt t new) (rulesAt t old)) in
-      let room = asked-room (shaped w (e .0)) (rulesAt t old) (rulesAt t new) a b i j in
+      let few = asked-fits (shaped w (e .0)) (rulesAt t old) (rulesAt t new) a b i j in
       rw (changed-asked w (e .0) (rankingIn h) (rulesAt t old) (rulesAt t new) a b)
-      (omega (arith, keep-length (differing w (rankingIn h) (rulesAt t old) (rulesAt t new)) (asked w (rulesAt t old) (rulesAt t new)), few, room))
+      (omega (arith, keep-length (differing w (rankingIn h) (rulesAt t old) (rulesAt t new)) (asked w (rulesAt t old) (rulesAt t new)), few))
 
   module _ {d halves : List ℕ} {n : ℕ} (u : Holds (changedIn w (table h s c m tr) old new) d n halves) where
     pub words-few : n ≤ 4096

@@ -2,13 +2,11 @@
 use mathlib.Core.Path.{_≡_, refl, sym, _∙_}
 use mathlib.Core.Bool.{Bool, true, false}
 use mathlib.Core.Logic.{_≢_, inl, inr}
-use mathlib.Core.List.{List, [], _∷_, _++_}
+use mathlib.Core.List.{List, [], _∷_}
 use Prim.Native.Nat.{ℕ, _+_, _≤_, _<_}
 use native.Mathlib.Omega.{arith}
-use lib.ListN.{length, length-append, length-replicate}
+use lib.ListN.{length, length-replicate}
 use borrow.Author.Tests.{le-ltb}
-use Rattle.theory.specs.Lists.{sort}
-use Rattle.theory.proofs.Lists.{sort-length}
 use Rattle.lent.specs.Refusals.{check, firstOf}
 use Rattle.lent.proofs.Refusals.{above, first-stop, first-go}
 use Rattle.sheet.specs.Shape.{sheetShape}
@@ -18,12 +16,11 @@ use Rattle.table.specs.Tables.{Table, rankingIn, statesIn}
 use Rattle.table.specs.Shape.{tableShape}
 use Rattle.table.specs.Calls.{broken, notAState, buildVerdict}
 use Rattle.changeset.specs.Sets.{tooShort}
-use Rattle.changes.specs.Within.{propertiesWithout}
-use Rattle.changes.specs.Asked.{keep, asked, differing}
+use Rattle.changes.specs.Asked.{asked, differing}
 use Rattle.changes.proofs.Keep.{keep-length}
 use Rattle.changes.proofs.Asked.{changed-asked}
-use Rattle.changes.proofs.Room.{asked-room}
-use Rattle.cascade.specs.Calls.{rulesAt, changedIn, pairVerdict, changedVerdict}
+use Rattle.changes.proofs.Room.{asked-fits}
+use Rattle.cascade.specs.Calls.{rulesAt, changedIn, pairChecks, pairVerdict, changedVerdict}
 use Rattle.cascade.proofs.Listed.{rules-are, rules-rise}
 use Rattle.cascade.proofs.Verdicts.{pair-passed}
 use Rattle.covered.specs.Covered.{Covered}
@@ -51,20 +48,15 @@ module _ (w : List ℕ) (t : Table) (e : (sheetShape w ≡ true) × (tableShape 
       let are′ = rules-are w (t .head) (t .states) (t .cursors) (t .matched) (t .transitions) e new k b refl in
       let up = rules-rise w (t .head) (t .states) (t .cursors) (t .matched) (t .transitions) e old h a refl in
       let up′ = rules-rise w (t .head) (t .states) (t .cursors) (t .matched) (t .transitions) e new k b refl in
-      let x = propertiesWithout w a b in
-      let y = propertiesWithout w b a in
-      let room : length x + length y ≤ 4096 = asked-room (shaped w (e .0)) a b are are′ up up′ in
-      let one : length (sort (x ++ [])) ≤ length (x ++ []) = sort-length (x ++ []) in
-      let all : length (asked w a b) ≤ length (y ++ sort (x ++ [])) = sort-length (y ++ sort (x ++ [])) in
-      let kept : length (keep (differing w (rankingIn (t .head)) a b) (asked w a b)) ≤ length (asked w a b) = keep-length (differing w (rankingIn (t .head)) a b) (asked w a b) in
-      rw (changed-asked w (e .0) (rankingIn (t .head)) a b are are′) (omega (arith, room, one, all, kept, length-append x [], length-append y (sort (x ++ []))))
+      let fits = asked-fits (shaped w (e .0)) a b are are′ up up′ in
+      rw (changed-asked w (e .0) (rankingIn (t .head)) a b are are′) (omega (arith, fits, keep-length (differing w (rankingIn (t .head)) a b) (asked w a b)))
 
   -- so that the call refuses just where the states are none
   pub changed-is-pair : (stamp stamp′ : ℕ) → changedVerdict w t old stamp new stamp′ changedRoom ≡ pairVerdict w t old stamp new stamp′
   unfolding changedVerdict pairVerdict
   changed-is-pair stamp stamp′ =
       let v = pairVerdict w t old stamp new stamp′ in
-      let tests = check 11 (broken w t) ∷ check 4 (notAState (t .head) old stamp) ∷ check 4 (notAState (t .head) new stamp′) ∷ [] in
+      let tests = pairChecks w t old stamp new stamp′ in
       let last = tooShort (changedIn w t old new) changedRoom ∷ [] in
       elim (above v) [
         | inl z ↦
