@@ -13,7 +13,7 @@ use Rattle.lent.proofs.Refusals.{first-stop, first-go, first-clear, told-first}
 use Rattle.sheet.specs.Shape.{sheetShape}
 use Rattle.table.specs.Tables.{Table, table, stampIn, statesIn}
 use Rattle.table.specs.Shape.{tableShape}
-use Rattle.table.specs.Calls.{broken, notAState, stateVerdict}
+use Rattle.table.specs.Calls.{broken, notAState, stateChecks, stateVerdict}
 use Rattle.cascade.specs.Calls.{pairVerdict}
 
 -- ---- what a passed check says
@@ -45,7 +45,7 @@ module _ (w h s c m tr : List ℕ) (number stamp v : ℕ) (e : v ≡ stateVerdic
 
 module _ (w h s c m tr : List ℕ) (old oldStamp new newStamp : ℕ) where
   abbrev ofOld : List Check
-  ofOld = check 11 (broken w (table h s c m tr)) ∷ check 4 (notAState h old oldStamp) ∷ []
+  ofOld = stateChecks w (table h s c m tr) old oldStamp
 
   abbrev ofNew : List Check
   ofNew = check 4 (notAState h new newStamp) ∷ []

@@ -24,7 +24,7 @@ use Rattle.changeset.specs.declared.Changing.{Changing}
 use Rattle.changeset.proofs.Marks.{ids-none, sort-ascended}
 use Rattle.changeset.proofs.Calls.{list-short, list-fits}
 use Rattle.changes.specs.Changes.{resourceDependent}
-use Rattle.cascade.specs.Calls.{pairVerdict, changedVerdict, changedIn, resourceVerdict}
+use Rattle.cascade.specs.Calls.{pairChecks, pairVerdict, changedVerdict, changedIn, resourceVerdict}
 
 -- ---- the part that a held list is
 
@@ -35,7 +35,7 @@ held-part h = sym (roots-few h)
 
 module _ (w h s c m tr : List ℕ) (old oldStamp new newStamp v : ℕ) (e : v ≡ pairVerdict w (table h s c m tr) old oldStamp new newStamp) (out : List ℕ) where
   abbrev ofPair : List Check
-  ofPair = check 11 (broken w (table h s c m tr)) ∷ check 4 (notAState h old oldStamp) ∷ check 4 (notAState h new newStamp) ∷ []
+  ofPair = pairChecks w (table h s c m tr) old oldStamp new newStamp
 
   abbrev list : List ℕ
   list = changedIn w (table h s c m tr) old new
