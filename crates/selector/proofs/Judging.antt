@@ -1,18 +1,20 @@
 -- A law for each way through matching and diagnosis, with n steps in all. Assumes nothing.
-use mathlib.Core.Path.{_≡_, refl, sym, _∙_}
-use mathlib.Core.Bool.{Bool, true, false, not}
+use mathlib.Core.Path.{_≡_, refl, sym, ap, _∙_}
+use mathlib.Core.Bool.{Bool, true, false, not, cond}
 use mathlib.Core.List.{List, [], _∷_}
 use Prim.Native.Nat.{ℕ, zero, suc, _+_, _-_, _≤_, _<_}
+use native.Mathlib.Numerals.{add-one}
 use native.Mathlib.Omega.{arith}
 use lib.ListN.{getD}
 use lib.Dec.{eqb}
 use borrow.Author.Tests.{lt-ltb, le-ltb, eq-eqb, ne-eqb, not-true, not-false}
 use denote.Enum.Declared.{tagOf}
 use types.Run.{OneOf, miss}
+use Rattle.theory.specs.Lists.{spread}
 use Rattle.selector.specs.declared.Diagnosis.{Diagnosis}
 use Rattle.selector.specs.declared.Diagnosis.the-variants.{Fits, EmptySelectorWithNonEmptyPath, MissingSubject, StepMismatch, TrailingSubjects, MissingDescendant, Refused}
 use Rattle.selector.specs.Matching.{fitsFrom, anyFrom, farAt}
-use Rattle.selector.specs.Diagnosing.{judge, tryFrom, goOn}
+use Rattle.selector.specs.Diagnosing.{judge, isFit, isMismatch, someFit, otherErrors, lastOr, tried}
 use Rattle.selector.proofs.Diagnosis.{the-type}
 
 none-left : (n k : ℕ) → n ≤ k → n - k ≡ 0
@@ -77,7 +79,7 @@ module _ (hit : ℕ → ℕ → Bool) (m k i : ℕ) where
 
         module _ (c : getD codes k 0 ≡ 1) where
           pub judge-descendant : (d : Diagnosis)
-              → d ≡ tryFrom (judge hit (farAt codes) m (n - (k + 1 + 1)) (k + 1)) (m - (i + 1)) (i + 1) (MissingDescendant (k + 1) (i + 1))
+              → d ≡ tried (MissingDescendant (k + 1) (i + 1)) (spread (judge hit (farAt codes) m (n - (k + 1 + 1)) (k + 1)) (i + 1) (m - (i + 1)))
               → d ≡ judge hit (farAt codes) m (n - (k + 1)) k i
           unfolding judge
           judge-descendant d f = rw (one-left n (k + 1) l) (simp (lt-ltb i m h, matched, eq-eqb (getD codes k 0) 1 c) f)
@@ -102,36 +104,43 @@ module _ (f : ℕ → Bool) (m from : ℕ) where
 
 pub ruleset matching = (fits-missing, fits-mismatch, fits-ends, fits-child, fits-descendant, any-none, any-here, any-later)
 
+-- What was found so far is what would be given if no later place gave an error that counts
+pub tried-one : (last d : Diagnosis) (l : List Diagnosis) → tried last (d ∷ l) ≡ cond (isFit d) Fits (tried (cond (isMismatch d) last d) l)
+unfolding tried someFit otherErrors lastOr
+tried-one last Fits l = refl
+tried-one last EmptySelectorWithNonEmptyPath l = refl
+tried-one last (MissingSubject k i) l = refl
+tried-one last (StepMismatch k i) l = refl
+tried-one last (TrailingSubjects n i) l = refl
+tried-one last (MissingDescendant k i) l = refl
+tried-one last (Refused r) l = refl
+
 -- an error that counts takes the place of the last
-goes-on : (d last : Diagnosis) (rest : Diagnosis → Diagnosis) → OneOf (1 ∷ 2 ∷ 4 ∷ 5 ∷ 6 ∷ []) (tagOf the-type d) → goOn d last rest ≡ rest d
-unfolding goOn
-goes-on Fits last rest e = absurd (miss (1 ∷ 2 ∷ 4 ∷ 5 ∷ 6 ∷ []) 0 tt e)
-goes-on EmptySelectorWithNonEmptyPath last rest e = refl
-goes-on (MissingSubject k i) last rest e = refl
-goes-on (StepMismatch k i) last rest e = absurd (miss (1 ∷ 2 ∷ 4 ∷ 5 ∷ 6 ∷ []) 3 tt e)
-goes-on (TrailingSubjects n i) last rest e = refl
-goes-on (MissingDescendant k i) last rest e = refl
-goes-on (Refused r) last rest e = refl
+tried-counts : (last d : Diagnosis) (l : List Diagnosis) → OneOf (1 ∷ 2 ∷ 4 ∷ 5 ∷ 6 ∷ []) (tagOf the-type d) → tried last (d ∷ l) ≡ tried d l
+tried-counts last Fits l e = absurd (miss (1 ∷ 2 ∷ 4 ∷ 5 ∷ 6 ∷ []) 0 tt e)
+tried-counts last EmptySelectorWithNonEmptyPath l e = tried-one _ _ _
+tried-counts last (MissingSubject k i) l e = tried-one _ _ _
+tried-counts last (StepMismatch k i) l e = absurd (miss (1 ∷ 2 ∷ 4 ∷ 5 ∷ 6 ∷ []) 3 tt e)
+tried-counts last (TrailingSubjects n i) l e = tried-one _ _ _
+tried-counts last (MissingDescendant k i) l e = tried-one _ _ _
+tried-counts last (Refused r) l e = tried-one _ _ _
 
 module _ (f : ℕ → Diagnosis) (m from : ℕ) (last : Diagnosis) where
-  pub try-none : m ≤ from → last ≡ tryFrom f (m - from) from last
-  unfolding tryFrom
+  pub try-none : m ≤ from → last ≡ tried last (spread f from (m - from))
+  unfolding tried someFit otherErrors lastOr
   try-none h = rw (none-left m from h)
 
   module _ (h : from < m) (d : Diagnosis) (here : d ≡ f from) where
-    one-more : tryFrom f (m - from) from last ≡ goOn d last (λ x. tryFrom f (m - (from + 1)) (from + 1) x)
-    unfolding tryFrom
-    one-more = rw (one-left m from h, here)
+    one-more : spread f from (m - from) ≡ d ∷ spread f (from + 1) (m - (from + 1))
+    one-more = rw (one-left m from h, here, add-one from)
 
-    pub try-fits : d ≡ Fits → Fits ≡ tryFrom f (m - from) from last
-    unfolding goOn
-    try-fits e = sym (one-more ∙ rw e)
+    pub try-fits : d ≡ Fits → Fits ≡ tried last (spread f from (m - from))
+    try-fits e = rw (one-more, tried-one, e)
 
-    pub try-dropped : (k i : ℕ) → d ≡ StepMismatch k i → (r : Diagnosis) → r ≡ tryFrom f (m - (from + 1)) (from + 1) last → r ≡ tryFrom f (m - from) from last
-    unfolding goOn
-    try-dropped k i e r g = rw (one-more, e) g
+    pub try-dropped : (k i : ℕ) → d ≡ StepMismatch k i → (r : Diagnosis) → r ≡ tried last (spread f (from + 1) (m - (from + 1))) → r ≡ tried last (spread f from (m - from))
+    try-dropped k i e r g = rw (one-more, tried-one, e) g
 
-    pub try-kept : OneOf (1 ∷ 2 ∷ 4 ∷ 5 ∷ 6 ∷ []) (tagOf the-type d) → (r : Diagnosis) → r ≡ tryFrom f (m - (from + 1)) (from + 1) d → r ≡ tryFrom f (m - from) from last
-    try-kept e r g = g ∙ sym (one-more ∙ goes-on d last _ e)
+    pub try-kept : OneOf (1 ∷ 2 ∷ 4 ∷ 5 ∷ 6 ∷ []) (tagOf the-type d) → (r : Diagnosis) → r ≡ tried d (spread f (from + 1) (m - (from + 1))) → r ≡ tried last (spread f from (m - from))
+    try-kept e r g = g ∙ sym (ap (tried last) one-more ∙ tried-counts last d _ e)
 
 pub ruleset judging = (judge-missing, judge-mismatch, judge-trailing, judge-fits, judge-child, judge-descendant, try-none, try-fits, try-dropped, try-kept)

@@ -8,5 +8,4 @@ pub mod Answers
 pub mod Distinct
 pub mod Agree
 pub mod Fitting
-pub mod Drops
 pub mod Promises

@@ -1,30 +1,53 @@
 -- The diagnosis of a selector on a path: 01, "Paths". Assumes nothing.
 use mathlib.Core.Path.{_≡_, refl}
-use mathlib.Core.Bool.{Bool, true, false, cond}
+use mathlib.Core.Bool.{Bool, true, false, cond, _||_}
 use mathlib.Core.List.{List, [], _∷_}
 use Prim.Native.Nat.{ℕ, zero, suc, _+_, _-_}
 use lib.Dec.{ltb, eqb}
+use Rattle.theory.specs.Lists.{spread}
 use Rattle.lent.specs.Refusals.{told, answered}
 use Rattle.selector.specs.declared.Diagnosis.{Diagnosis}
 use Rattle.selector.specs.declared.Diagnosis.the-variants.{Fits, EmptySelectorWithNonEmptyPath, MissingSubject, StepMismatch, TrailingSubjects, MissingDescendant, Refused}
 use Rattle.selector.specs.Matching.{hitAt, farAt}
 use Rattle.selector.specs.Checks.{pathVerdict}
 
--- Trying a later place gave d, and `last` is what would be given so far: "a fit ends it; a StepMismatch from however deep is dropped; of the other
--- errors the last is given"
-unfoldable pub goOn : Diagnosis → Diagnosis → (Diagnosis → Diagnosis) → Diagnosis
-goOn Fits last rest = Fits
-goOn EmptySelectorWithNonEmptyPath last rest = rest EmptySelectorWithNonEmptyPath
-goOn (MissingSubject k i) last rest = rest (MissingSubject k i)
-goOn (StepMismatch k i) last rest = rest last
-goOn (TrailingSubjects n i) last rest = rest (TrailingSubjects n i)
-goOn (MissingDescendant k i) last rest = rest (MissingDescendant k i)
-goOn (Refused r) last rest = rest (Refused r)
+abbrev pub isFit : Diagnosis → Bool
+isFit Fits = true
+isFit EmptySelectorWithNonEmptyPath = false
+isFit (MissingSubject k i) = false
+isFit (StepMismatch k i) = false
+isFit (TrailingSubjects n i) = false
+isFit (MissingDescendant k i) = false
+isFit (Refused r) = false
 
--- "tries each later place in order": `judge` at `from` and at the n - 1 places after it
-unfoldable pub tryFrom : (ℕ → Diagnosis) → ℕ → ℕ → Diagnosis → Diagnosis
-tryFrom judge zero from last = last
-tryFrom judge (suc n) from last = goOn (judge from) last (λ d. tryFrom judge n (from + 1) d)
+abbrev pub isMismatch : Diagnosis → Bool
+isMismatch Fits = false
+isMismatch EmptySelectorWithNonEmptyPath = false
+isMismatch (MissingSubject k i) = false
+isMismatch (StepMismatch k i) = true
+isMismatch (TrailingSubjects n i) = false
+isMismatch (MissingDescendant k i) = false
+isMismatch (Refused r) = false
+
+-- one of the list is a fit
+unfoldable pub someFit : List Diagnosis → Bool
+someFit [] = false
+someFit (d ∷ l) = isFit d || someFit l
+
+-- the list without its mismatches
+unfoldable pub otherErrors : List Diagnosis → List Diagnosis
+otherErrors [] = []
+otherErrors (d ∷ l) = cond (isMismatch d) (otherErrors l) (d ∷ otherErrors l)
+
+-- the last of the list, `none` if it is empty
+unfoldable pub lastOr : Diagnosis → List Diagnosis → Diagnosis
+lastOr none [] = none
+lastOr none (d ∷ l) = lastOr d l
+
+-- What comes of the later places, given what each of them gives, in order: "a fit ends it; a StepMismatch from however deep is dropped; of the other
+-- errors the last is given; with none, .."
+unfoldable pub tried : Diagnosis → List Diagnosis → Diagnosis
+tried none l = cond (someFit l) Fits (lastOr none (otherErrors l))
 
 -- `hit k i`: step k matches at place i; `far k`: a descendant combinator follows step k; m: the number of places
 module _ (hit : ℕ → ℕ → Bool) (far : ℕ → Bool) (m : ℕ) where
@@ -39,7 +62,7 @@ module _ (hit : ℕ → ℕ → Bool) (far : ℕ → Bool) (m : ℕ) where
   judge (suc after) k i =
       atPlace k i
       (cond (far k)
-      (tryFrom (λ j. judge after (k + 1) j) (m - (i + 1)) (i + 1) (MissingDescendant (k + 1) (i + 1)))
+      (tried (MissingDescendant (k + 1) (i + 1)) (spread (λ j. judge after (k + 1) j) (i + 1) (m - (i + 1))))
       (judge after (k + 1) (i + 1)))
 
 -- "no steps and a path that isn't empty, EmptySelectorWithNonEmptyPath. Otherwise start at step 0, place 0."
@@ -63,11 +86,6 @@ diagnosisOf steps n combinators c path m =
 
 -- ---- for example: three places give two errors and a StepMismatch; it is dropped, and of the errors the last is given
 
-abbrev sample : ℕ → Diagnosis
-sample zero = MissingSubject 1 1
-sample (suc zero) = TrailingSubjects 2 2
-sample (suc (suc i)) = StepMismatch 1 i
-
-last-error : tryFrom sample 3 0 (MissingDescendant 1 1) ≡ TrailingSubjects 2 2
-unfolding tryFrom goOn
+last-error : tried (MissingDescendant 1 1) (MissingSubject 1 1 ∷ TrailingSubjects 2 2 ∷ StepMismatch 1 0 ∷ []) ≡ TrailingSubjects 2 2
+unfolding tried someFit otherErrors lastOr
 last-error = refl

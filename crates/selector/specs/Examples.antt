@@ -10,7 +10,7 @@ use Rattle.selector.specs.Tags.{tagOk, stepMatches}
 use Rattle.selector.specs.Rows.{rowAt}
 use Rattle.selector.specs.Checks.{selectorOver, pathOver, codesOver, subjectsOff, pathVerdict}
 use Rattle.selector.specs.Matching.{anyFrom, fitsFrom, fits, matchingOf}
-use Rattle.selector.specs.Diagnosing.{goOn, tryFrom, judge, diagnose, diagnosisOf}
+use Rattle.selector.specs.Diagnosing.{someFit, otherErrors, lastOr, tried, judge, diagnose, diagnosisOf}
 
 -- what a definition gives, and what 01 says
 pub record Example : Type 0 where
@@ -56,5 +56,5 @@ table =
     ∷ []
 
 pub table-right : map (λ r. r .given) table ≡ map (λ r. r .said) table
-unfolding table ascendsFrom member contained insert sort firstOf allBelow tagOk stepMatches rowAt selectorOver pathOver codesOver subjectsOff pathVerdict anyFrom fitsFrom fits matchingOf goOn tryFrom judge diagnose diagnosisOf
+unfolding table ascendsFrom member contained insert sort firstOf allBelow tagOk stepMatches rowAt selectorOver pathOver codesOver subjectsOff pathVerdict anyFrom fitsFrom fits matchingOf someFit otherErrors lastOr tried judge diagnose diagnosisOf
 table-right = refl

@@ -10,9 +10,10 @@ ghost use mathlib.Core.Path.{_≡_};
 ghost use mathlib.Core.Bool.{false};
 ghost use Prim.Native.Nat.{_<_, _≤_, _+_, _-_};
 ghost use lib.ListN.{length};
+ghost use Rattle.theory.specs.Lists.{spread};
 ghost use Rattle.selector.specs.Checks.{subjectsOff};
 ghost use Rattle.selector.specs.Matching.{anyFrom, fitsFrom, hitAt, farAt, matchingTold, matchingOf};
-ghost use Rattle.selector.specs.Diagnosing.{tryFrom, judge, diagnosisTold, diagnosisOf};
+ghost use Rattle.selector.specs.Diagnosing.{tried, judge, diagnosisTold, diagnosisOf};
 
 // Whether step k matches at place i.
 fn hits(steps: &[u32], k: usize, path: &[u32], m: usize, i: usize) -> bool
@@ -135,7 +136,7 @@ fn try_later(
     last: Diagnosis,
 ) -> Diagnosis
     requires { ⌜ (step < n) × (n ≤ 8) × (n ≤ length (now combinators) + 1) × (m ≤ 32) × (subjectsOff (now path) m ≡ false) ⌝ }
-    ensures { λ r. ⌜ r ≡ tryFrom (judge (hitAt (now (steps .entry)) (now (path .entry))) (farAt (now (combinators .entry))) m (n - (step + 1)) step) (m - from) from last ⌝ }
+    ensures { λ r. ⌜ r ≡ tried last (spread (judge (hitAt (now (steps .entry)) (now (path .entry))) (farAt (now (combinators .entry))) m (n - (step + 1)) step) from (m - from)) ⌝ }
 {
     if m <= from {
         return last;
