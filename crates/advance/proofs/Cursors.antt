@@ -12,10 +12,11 @@ use mir.Syntax.{w32}
 use mir.Val.{Fits}
 use borrow.Author.Tests.{lt-ltb, eq-eqb, ne-eqb}
 use Rattle.theory.specs.Lists.{only}
-use Rattle.theory.specs.States.{rule, cursor, descends}
+use Rattle.theory.specs.States.{rule, cursor}
 use Rattle.lent.specs.Pool.{endsIn, startOf}
 use Rattle.selector.specs.Tags.{Tags, asSets, stepMatches}
-use Rattle.selector.specs.Rows.{rowAt, combOf}
+use Rattle.selector.specs.Rows.{rowAt}
+use Rattle.selector.proofs.RowLaws.{descends-is}
 use Rattle.sheet.specs.Layout.{rulesIn, stepsIn, stepPlace, STEP-COMBINATOR, STEP-WORDS}
 use Rattle.sheet.specs.Sheets.{partAt, ruleStepEnds}
 use Rattle.sheet.specs.Shape.{sheetShape}
@@ -30,9 +31,6 @@ use Rattle.advance.specs.Collecting.{Free, Put, Kept, Puts}
 use Rattle.advance.proofs.Putting.{put-none, put-then, put-free}
 
 -- ---- one step
-
-descends-is : (code : ℕ) → descends (combOf code) ≡ not (eqb code 0)
-descends-is code = elim (ℕ-discrete code 0) [ yes e ↦ rw (eq-eqb code 0 e) | no e ↦ rw (ne-eqb code 0 e) ]
 
 -- whether the step is its rule's last: by its number in the rule, and by its number in the sheet
 last-is : (from to i : ℕ) → from + i < to → eqb (suc i) (to - from) ≡ eqb (from + i + 1) to

@@ -5,8 +5,7 @@ use mathlib.Core.List.{List, []}
 use mathlib.Core.Logic.{⊎-elim}
 use Prim.Native.Nat.{ℕ, suc, _+_, _-_, _≤_, _<_}
 use native.Mathlib.Omega.{arith}
-use lib.ListN.{length}
-use borrow.Author.Tests.{eq-eqb, ne-eqb, eqb-true, not-false}
+use borrow.Author.Tests.{eq-eqb, ne-eqb, not-false}
 use Rattle.theory.proofs.Lists.{le-or-lt}
 use Rattle.lent.specs.declared.Refusal.{Refusal}
 use Rattle.lent.specs.Refusals.{firstOf, refusalOf, told, answered}
@@ -19,7 +18,7 @@ use Rattle.selector.specs.Rows.{subjectAt}
 use Rattle.selector.specs.Checks.{selectorOver, pathOver, combinatorsOff, codesOver, tagsAscend, subjectsOff, pathVerdict}
 use Rattle.selector.specs.Matching.{fitsFrom, hitAt, farAt, fits, matchingTold, matchingOf}
 use Rattle.selector.specs.Diagnosing.{judge, diagnose, diagnosisTold, diagnosisOf}
-use Rattle.selector.proofs.CheckLaws.{over-steps, combinators-there, places-few}
+use Rattle.selector.proofs.CheckLaws.{over-steps, places-few}
 
 -- a place whose row's ids ascend, where no subject is off
 pub row-sorted : (path : List ℕ) (m i : ℕ) → i < m → subjectsOff path m ≡ false → tagsAscend (subjectAt path i) ≡ true
@@ -39,8 +38,6 @@ module _ (steps : List ℕ) (n : ℕ) (combinators : List ℕ) (c : ℕ) (path :
   -- what a call that is not refused keeps to
   pub record Accepted : Type 0 where
     pub steps-few : n ≤ 8
-    pub combinators-many : n ≤ length combinators + 1
-    pub codes : codesOver combinators (n - 1) ≡ false
     pub places-few : m ≤ 32
     pub sorted : subjectsOff path m ≡ false
 
@@ -52,12 +49,8 @@ module _ (steps : List ℕ) (n : ℕ) (combinators : List ℕ) (c : ℕ) (path :
         let (b, s) = first-clear 2 (pathOver path m) _ (omega arith) r in
         let (d, t) = first-clear 3 (combinatorsOff n c) _ (omega arith) s in
         let (f, u) = first-clear 6 (codesOver combinators c) _ (omega arith) t in
-        let count : c ≡ n - 1 = eqb-true c (n - 1) (not-false _ d) in
-        let there : c ≤ length combinators = combinators-there steps n combinators c _ refl a in
         record {
           steps-few = ⊎-elim (λ h. h) (λ h. absurd (let z : true ≡ false = over-steps steps n combinators c h ∙ a in let y : _≡_ {A = ℕ} 0 1 = cc in omega arith)) (le-or-lt n 8);
-          combinators-many = omega arith;
-          codes = rw (← count) f;
           places-few = places-few path m _ refl b;
           sorted = first-clear 1 (subjectsOff path m) [] (omega arith) u .0;
         }

@@ -10,20 +10,20 @@ use native.Mathlib.Omega.{arith}
 use lib.ListN.{getD, drop}
 use lib.Seq.{getD-drop, drop-drop}
 use lib.Dec.{T, eqb}
-use borrow.Author.Tests.{lt-ltb, le-ltb, ltb-false, eqb-true, eq-eqb, not-true, not-false}
+use borrow.Author.Tests.{lt-ltb, le-ltb, eqb-true, eq-eqb}
 use Rattle.theory.specs.Lists.{spread}
-use Rattle.theory.specs.Paths.{child, descendant, Part, Selector, Goes, done, here, skip, Fits, Places}
+use Rattle.theory.specs.Paths.{Comb, child, descendant, Part, Selector, Goes, done, here, skip, Fits, Places}
+use Rattle.theory.specs.States.{descends}
 use Rattle.theory.specs.Level3.{Chain, Element, Represents}
 use Rattle.theory.specs.Reading.{chainOf, elementOf}
 use Rattle.theory.proofs.Spreads.{spread-same, spread-shift, drop-spread}
 use Rattle.theory.proofs.Places as places
 use Rattle.theory.proofs.Level3.{represents-tail}
-use Rattle.lent.proofs.All.{all-at}
 use Rattle.selector.specs.Tags.{Tags, stepMatches}
 use Rattle.selector.specs.Rows.{rowAt, stepAt, subjectAt, combOf, combBefore, selectorOf, pathOf}
-use Rattle.selector.specs.Checks.{codesOver, pathVerdict}
+use Rattle.selector.specs.Checks.{pathVerdict}
 use Rattle.selector.specs.Matching.{anyFrom, fitsFrom, farAt, fits, matchingTold, yesNo, matchingOf}
-use Rattle.selector.proofs.Answers.{accepted, told-is}
+use Rattle.selector.proofs.Answers.{told-is}
 
 no-true : {A : Type 0} → false ≡ true → A
 no-true e = absurd (let z : _≡_ {A = ℕ} 0 1 = cc in omega arith)
@@ -86,32 +86,26 @@ module _ {Step Subject : Type 0} (ok : Step → Subject → Bool) (part : ℕ �
 
 -- ---- rows
 
--- a code that is 0 or 1 means the same to both
-code-is : (code : ℕ) → code ≤ 1 → combOf code ≡ cond (eqb code 1) descendant child
-code-is zero h = refl
-code-is (suc zero) h = refl
-code-is (suc (suc code)) h = absurd (omega arith)
-
-codes-are : (combinators : List ℕ) (c : ℕ) → codesOver combinators c ≡ false → (k : ℕ) → k < c → combOf (getD combinators k 0) ≡ cond (farAt combinators k) descendant child
-unfolding codesOver
-codes-are combinators c h k l = code-is (getD combinators k 0) (ltb-false _ _ (not-true _ (all-at _ c k l (not-false _ h))))
+comb-is : (c : Comb) → c ≡ cond (descends c) descendant child
+comb-is child = refl
+comb-is descendant = refl
 
 abbrev partAt : List ℕ → List ℕ → ℕ → Part Tags
 partAt steps combinators k = record { comb = combBefore combinators k; step = stepAt steps k }
 
 -- Matching says yes exactly if the selector fits the path,
-pub fits-is : (steps : List ℕ) (n : ℕ) (combinators path : List ℕ) (m : ℕ) → codesOver combinators (n - 1) ≡ false
+pub fits-is : (steps : List ℕ) (n : ℕ) (combinators path : List ℕ) (m : ℕ)
     → (fits steps n combinators path m ≡ true) ↔ Fits stepMatches (selectorOf steps combinators n) (pathOf path m)
 unfolding fits selectorOf pathOf
-fits-is steps zero combinators path zero h = (λ _. tt, λ _. refl)
-fits-is steps zero combinators path (suc m) h = (λ e. absurd (let z = eqb-true (suc m) 0 e in omega arith), λ f. absurd f)
-fits-is steps (suc n) combinators path m h =
-    from-is stepMatches (partAt steps combinators) (subjectAt path) (farAt combinators) m (suc n) (λ k l. codes-are combinators (suc n - 1) h k (omega arith)) n 0 0 m (omega arith) (omega arith)
+fits-is steps zero combinators path zero = (λ _. tt, λ _. refl)
+fits-is steps zero combinators path (suc m) = (λ e. absurd (let z = eqb-true (suc m) 0 e in omega arith), λ f. absurd f)
+fits-is steps (suc n) combinators path m =
+    from-is stepMatches (partAt steps combinators) (subjectAt path) (farAt combinators) m (suc n) (λ k l. comb-is (combOf (getD combinators k 0))) n 0 0 m (omega arith) (omega arith)
 
 -- that is, if its steps can be given places as 01 says,
-pub fits-places : (steps : List ℕ) (n : ℕ) (combinators path : List ℕ) (m : ℕ) → codesOver combinators (n - 1) ≡ false
+pub fits-places : (steps : List ℕ) (n : ℕ) (combinators path : List ℕ) (m : ℕ)
     → (fits steps n combinators path m ≡ true) ↔ Places stepMatches (selectorOf steps combinators n) (pathOf path m)
-fits-places steps n combinators path m h = Iff·trans (fits-is steps n combinators path m h) (places.fits-places stepMatches _ _)
+fits-places steps n combinators path m = Iff·trans (fits-is steps n combinators path m) (places.fits-places stepMatches _ _)
 
 yes-is : (b : Bool) → (matchingTold (yesNo b) ≡ 0 ∷ 1 ∷ []) ↔ (b ≡ true)
 yes-is true = (λ _. refl, λ _. refl)
@@ -123,7 +117,7 @@ pub matching-places : (steps : List ℕ) (n : ℕ) (combinators : List ℕ) (c :
 unfolding matchingOf
 matching-places steps n combinators c path m z =
     rw (told-is steps n combinators c path m _ refl z)
-    (Iff·trans (yes-is (fits steps n combinators path m)) (fits-places steps n combinators path m (accepted steps n combinators c path m _ refl z .codes)))
+    (Iff·trans (yes-is (fits steps n combinators path m)) (fits-places steps n combinators path m))
 
 -- ---- tails
 
@@ -150,12 +144,11 @@ elementAt path m = elementOf (subjectAt path 0) (spread (subjectAt path) 1 m)
 
 -- and it says yes of some tail of the path, the first j subjects left out, exactly if Level 3 says that the selector represents the path's last element.
 -- (That the first step stands at the first place is 01's own.)
-pub fits-level3 : (steps : List ℕ) (n : ℕ) (combinators path : List ℕ) (m : ℕ) → codesOver combinators n ≡ false
+pub fits-level3 : (steps : List ℕ) (n : ℕ) (combinators path : List ℕ) (m : ℕ)
     → ((j : ℕ) × (fits steps (suc n) combinators (drop (38 * j) path) (suc m - j) ≡ true)) ↔ Represents stepMatches (chainAt steps combinators n) (elementAt path m)
 unfolding selectorOf pathOf
-fits-level3 steps n combinators path m h =
-    let codes : codesOver combinators (suc n - 1) ≡ false = let z : suc n - 1 ≡ n = omega arith in rw z h in
+fits-level3 steps n combinators path m =
     let tail = represents-tail stepMatches (partAt steps combinators 0) (spread (partAt steps combinators) 1 n) (subjectAt path 0) (spread (subjectAt path) 1 m) in
     let at : (j : ℕ) → (fits steps (suc n) combinators (drop (38 * j) path) (suc m - j) ≡ true) ↔ Fits stepMatches (selectorOf steps combinators (suc n)) (drop j (pathOf path (suc m))) =
-    λ j. rw (path-drop path j (suc m)) at (fits-is steps (suc n) combinators (drop (38 * j) path) (suc m - j) codes) in
+    λ j. rw (path-drop path j (suc m)) at (fits-is steps (suc n) combinators (drop (38 * j) path) (suc m - j)) in
     (λ t. tail .1 (t .0, at (t .0) .0 (t .1)), λ r. let t = tail .0 r in (t .0, at (t .0) .1 (t .1)))

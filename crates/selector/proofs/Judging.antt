@@ -5,15 +5,14 @@ use mathlib.Core.List.{List, [], _∷_}
 use Prim.Native.Nat.{ℕ, zero, suc, _+_, _-_, _≤_, _<_}
 use native.Mathlib.Numerals.{add-one}
 use native.Mathlib.Omega.{arith}
-use lib.ListN.{getD}
 use lib.Dec.{eqb}
-use borrow.Author.Tests.{lt-ltb, le-ltb, eq-eqb, ne-eqb, not-true, not-false}
+use borrow.Author.Tests.{lt-ltb, le-ltb, not-true, not-false}
 use denote.Enum.Declared.{tagOf}
 use types.Run.{OneOf, miss}
 use Rattle.theory.specs.Lists.{spread}
 use Rattle.selector.specs.declared.Diagnosis.{Diagnosis}
 use Rattle.selector.specs.declared.Diagnosis.the-variants.{Fits, EmptySelectorWithNonEmptyPath, MissingSubject, StepMismatch, TrailingSubjects, MissingDescendant, Refused}
-use Rattle.selector.specs.Matching.{fitsFrom, anyFrom, farAt}
+use Rattle.selector.specs.Matching.{fitsFrom, anyFrom}
 use Rattle.selector.specs.Diagnosing.{judge, isFit, isMismatch, someFit, otherErrors, lastOr, tried}
 use Rattle.selector.proofs.Diagnosis.{the-type}
 
@@ -67,26 +66,26 @@ module _ (hit : ℕ → ℕ → Bool) (m k i : ℕ) where
         fits-ends = rw (none-left n (k + 1) l) (simp (lt-ltb i m h, matched))
 
       -- a step with more after it
-      module _ (l : k + 1 < n) (codes : List ℕ) where
-        module _ (c : getD codes k 0 ≡ 1 → ⊥) where
-          pub judge-child : (d : Diagnosis) → d ≡ judge hit (farAt codes) m (n - (k + 1 + 1)) (k + 1) (i + 1) → d ≡ judge hit (farAt codes) m (n - (k + 1)) k i
+      module _ (l : k + 1 < n) (far : ℕ → Bool) (f : Bool) (c : f ≡ far k) where
+        module _ (g : f ≡ false) where
+          pub judge-child : (d : Diagnosis) → d ≡ judge hit far m (n - (k + 1 + 1)) (k + 1) (i + 1) → d ≡ judge hit far m (n - (k + 1)) k i
           unfolding judge
-          judge-child d f = rw (one-left n (k + 1) l) (simp (lt-ltb i m h, matched, ne-eqb (getD codes k 0) 1 c) f)
+          judge-child d q = rw (one-left n (k + 1) l) (simp (lt-ltb i m h, matched, ← c, g) q)
 
-          pub fits-child : (r : Bool) → r ≡ fitsFrom hit (farAt codes) m (n - (k + 1 + 1)) (k + 1) (i + 1) → r ≡ fitsFrom hit (farAt codes) m (n - (k + 1)) k i
+          pub fits-child : (r : Bool) → r ≡ fitsFrom hit far m (n - (k + 1 + 1)) (k + 1) (i + 1) → r ≡ fitsFrom hit far m (n - (k + 1)) k i
           unfolding fitsFrom
-          fits-child r f = rw (one-left n (k + 1) l) (simp (lt-ltb i m h, matched, ne-eqb (getD codes k 0) 1 c) f)
+          fits-child r q = rw (one-left n (k + 1) l) (simp (lt-ltb i m h, matched, ← c, g) q)
 
-        module _ (c : getD codes k 0 ≡ 1) where
+        module _ (g : f ≡ true) where
           pub judge-descendant : (d : Diagnosis)
-              → d ≡ tried (MissingDescendant (k + 1) (i + 1)) (spread (judge hit (farAt codes) m (n - (k + 1 + 1)) (k + 1)) (i + 1) (m - (i + 1)))
-              → d ≡ judge hit (farAt codes) m (n - (k + 1)) k i
+              → d ≡ tried (MissingDescendant (k + 1) (i + 1)) (spread (judge hit far m (n - (k + 1 + 1)) (k + 1)) (i + 1) (m - (i + 1)))
+              → d ≡ judge hit far m (n - (k + 1)) k i
           unfolding judge
-          judge-descendant d f = rw (one-left n (k + 1) l) (simp (lt-ltb i m h, matched, eq-eqb (getD codes k 0) 1 c) f)
+          judge-descendant d q = rw (one-left n (k + 1) l) (simp (lt-ltb i m h, matched, ← c, g) q)
 
-          pub fits-descendant : (r : Bool) → r ≡ anyFrom (fitsFrom hit (farAt codes) m (n - (k + 1 + 1)) (k + 1)) (m - (i + 1)) (i + 1) → r ≡ fitsFrom hit (farAt codes) m (n - (k + 1)) k i
+          pub fits-descendant : (r : Bool) → r ≡ anyFrom (fitsFrom hit far m (n - (k + 1 + 1)) (k + 1)) (m - (i + 1)) (i + 1) → r ≡ fitsFrom hit far m (n - (k + 1)) k i
           unfolding fitsFrom
-          fits-descendant r f = rw (one-left n (k + 1) l) (simp (lt-ltb i m h, matched, eq-eqb (getD codes k 0) 1 c) f)
+          fits-descendant r q = rw (one-left n (k + 1) l) (simp (lt-ltb i m h, matched, ← c, g) q)
 
 module _ (f : ℕ → Bool) (m from : ℕ) where
   pub any-none : m ≤ from → false ≡ anyFrom f (m - from) from

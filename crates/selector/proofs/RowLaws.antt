@@ -1,6 +1,6 @@
 -- Laws of lent rows: a tag, the ids, and a step against a subject, by each way through the code. Assumes nothing.
 use mathlib.Core.Path.{_≡_, refl, sym, _∙_}
-use mathlib.Core.Bool.{Bool, true, false}
+use mathlib.Core.Bool.{Bool, true, false, cond, not}
 use mathlib.Core.Option.{Option}
 use mathlib.Core.List.{List}
 use Prim.Native.Nat.{ℕ, _+_, _-_, _≤_, _<_}
@@ -11,9 +11,11 @@ use lib.Seq.{drop-cons}
 use lib.Dec.{eqb}
 use borrow.Author.Tests.{eq-eqb, ne-eqb, not-true, not-false}
 use Rattle.theory.specs.Lists.{ascends, member, contained, sort}
+use Rattle.theory.specs.Paths.{child, descendant}
+use Rattle.theory.specs.States.{descends}
 use Rattle.theory.proofs.Lists.{and-left, and-right, bool-ext, sort-in, contained-is}
 use Rattle.selector.specs.Tags.{asSets, tagOk, stepMatches}
-use Rattle.selector.specs.Rows.{tagOf, wordsFrom, rowAt}
+use Rattle.selector.specs.Rows.{tagOf, wordsFrom, rowAt, combOf}
 use Rattle.selector.specs.Checks.{tagsAscend}
 
 -- ---- a tag
@@ -107,6 +109,18 @@ module _ (steps : List ℕ) (s : ℕ) (path : List ℕ) (x : ℕ) (b : Bool)
           → r ≡ stepMatches (asSets (rowAt 8 steps s)) (rowAt 16 path x)
       unfolding stepMatches rowAt
       row-matches u m m′ r k k′ j = rw (← e, t, ← part-word b′ steps s path x e′, t′, contained-sort, ← f, ← f′, ← g, u, contained-sort, ← k, ← k′) j
+
+-- ---- a combinator's code
+
+pub descends-is : (code : ℕ) → descends (combOf code) ≡ not (eqb code 0)
+descends-is code = by (eqb code 0)
+  where
+    by : (b : Bool) → descends (cond b child descendant) ≡ not b
+    by true = refl
+    by false = refl
+
+pub far-is : (w code : ℕ) → w ≡ code → not (eqb w 0) ≡ descends (combOf code)
+far-is w code e = rw e (sym (descends-is code))
 
 -- ---- counts
 

@@ -4,11 +4,12 @@ use mathlib.Core.List.{List, [], _∷_}
 use Prim.Native.Nat.{ℕ, zero, suc, _+_, _-_}
 use lib.ListN.{getD}
 use lib.Dec.{ltb, eqb}
+use Rattle.theory.specs.States.{descends}
 use Rattle.lent.specs.Refusals.{told, answered}
 use Rattle.selector.specs.declared.Matching.{Matching}
 use Rattle.selector.specs.declared.Matching.the-variants.{Yes, No, Refused}
 use Rattle.selector.specs.Tags.{stepMatches}
-use Rattle.selector.specs.Rows.{stepAt, subjectAt}
+use Rattle.selector.specs.Rows.{stepAt, subjectAt, combOf}
 use Rattle.selector.specs.Checks.{pathVerdict}
 
 -- f at `from` or at one of the n - 1 places after it
@@ -32,7 +33,7 @@ abbrev pub hitAt : List ℕ → List ℕ → ℕ → ℕ → Bool
 hitAt steps path k i = stepMatches (stepAt steps k) (subjectAt path i)
 
 abbrev pub farAt : List ℕ → ℕ → Bool
-farAt combinators k = eqb (getD combinators k 0) 1
+farAt combinators k = descends (combOf (getD combinators k 0))
 
 -- "The empty selector fits only the empty path."
 unfoldable pub fits : List ℕ → ℕ → List ℕ → List ℕ → ℕ → Bool

@@ -6,10 +6,10 @@ use crate::rows::STEP_WORDS;
 use crate::rows::SUBJECT_WORDS;
 use crate::rows::matches_row;
 use lent::Refusal;
+use lent::words::word;
 ghost use mathlib.Core.Path.{_≡_};
 ghost use mathlib.Core.Bool.{false};
 ghost use Prim.Native.Nat.{_<_, _≤_, _+_, _-_};
-ghost use lib.ListN.{length};
 ghost use Rattle.theory.specs.Lists.{spread};
 ghost use Rattle.selector.specs.Checks.{subjectsOff};
 ghost use Rattle.selector.specs.Matching.{anyFrom, fitsFrom, hitAt, farAt, matchingTold, matchingOf};
@@ -23,6 +23,13 @@ fn hits(steps: &[u32], k: usize, path: &[u32], m: usize, i: usize) -> bool
     matches_row(steps, STEP_WORDS * k, path, SUBJECT_WORDS * i)
 }
 
+// Whether a descendant combinator follows step k.
+fn is_far(combinators: &[u32], k: usize) -> bool
+    ensures { λ r. ⌜ r ≡ farAt (now (combinators .entry)) k ⌝ }
+{
+    word(combinators, k) != 0
+}
+
 // Whether the n steps from `step` on fit, with `step` at `place`, to the end of the m places.
 fn matches_path_from(
     steps: &[u32],
@@ -33,7 +40,7 @@ fn matches_path_from(
     step: usize,
     place: usize,
 ) -> bool
-    requires { ⌜ (step < n) × (n ≤ 8) × (n ≤ length (now combinators) + 1) × (m ≤ 32) × (subjectsOff (now path) m ≡ false) ⌝ }
+    requires { ⌜ (step < n) × (n ≤ 8) × (m ≤ 32) × (subjectsOff (now path) m ≡ false) ⌝ }
     ensures { λ r. ⌜ r ≡ fitsFrom (hitAt (now (steps .entry)) (now (path .entry))) (farAt (now (combinators .entry))) m (n - (step + 1)) step place ⌝ }
 {
     if m <= place {
@@ -45,7 +52,7 @@ fn matches_path_from(
     let next = step + 1;
     let after = place + 1;
     if next < n {
-        if combinators[step] == 1 {
+        if is_far(combinators, step) {
             matches_later(steps, n, combinators, path, m, next, after)
         } else {
             matches_path_from(steps, n, combinators, path, m, next, after)
@@ -65,7 +72,7 @@ fn matches_later(
     step: usize,
     from: usize,
 ) -> bool
-    requires { ⌜ (step < n) × (n ≤ 8) × (n ≤ length (now combinators) + 1) × (m ≤ 32) × (subjectsOff (now path) m ≡ false) ⌝ }
+    requires { ⌜ (step < n) × (n ≤ 8) × (m ≤ 32) × (subjectsOff (now path) m ≡ false) ⌝ }
     ensures { λ r. ⌜ r ≡ anyFrom (fitsFrom (hitAt (now (steps .entry)) (now (path .entry))) (farAt (now (combinators .entry))) m (n - (step + 1)) step) (m - from) from ⌝ }
 {
     if m <= from {
@@ -87,7 +94,7 @@ fn diagnose_path_from(
     step: usize,
     place: usize,
 ) -> Diagnosis
-    requires { ⌜ (step < n) × (n ≤ 8) × (n ≤ length (now combinators) + 1) × (m ≤ 32) × (subjectsOff (now path) m ≡ false) ⌝ }
+    requires { ⌜ (step < n) × (n ≤ 8) × (m ≤ 32) × (subjectsOff (now path) m ≡ false) ⌝ }
     ensures { λ r. ⌜ r ≡ judge (hitAt (now (steps .entry)) (now (path .entry))) (farAt (now (combinators .entry))) m (n - (step + 1)) step place ⌝ }
 {
     if m <= place {
@@ -105,7 +112,7 @@ fn diagnose_path_from(
     let next = step + 1;
     let after = place + 1;
     if next < n {
-        if combinators[step] == 1 {
+        if is_far(combinators, step) {
             let none = Diagnosis::MissingDescendant {
                 step_index: next,
                 after_path_index: after,
@@ -135,7 +142,7 @@ fn try_later(
     from: usize,
     last: Diagnosis,
 ) -> Diagnosis
-    requires { ⌜ (step < n) × (n ≤ 8) × (n ≤ length (now combinators) + 1) × (m ≤ 32) × (subjectsOff (now path) m ≡ false) ⌝ }
+    requires { ⌜ (step < n) × (n ≤ 8) × (m ≤ 32) × (subjectsOff (now path) m ≡ false) ⌝ }
     ensures { λ r. ⌜ r ≡ tried last (spread (judge (hitAt (now (steps .entry)) (now (path .entry))) (farAt (now (combinators .entry))) m (n - (step + 1)) step) from (m - from)) ⌝ }
 {
     if m <= from {

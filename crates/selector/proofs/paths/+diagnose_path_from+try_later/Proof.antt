@@ -11,6 +11,7 @@ use Rattle.selector.proofs.paths.try_later.Reads as try-r
 use Rattle.selector.proofs.paths.try_later.Kinds as try-k
 use Rattle.selector.proofs.paths.+diagnose_path_from+try_later.Lts-try_later as tl
 use Rattle.selector.proofs.paths.hits.Reads as hits-r
+use Rattle.selector.proofs.paths.is_far.Reads as far-r
 use Rattle.selector.proofs.paths.+diagnose_path_from+try_later.{statement}
 use Rattle.selector.proofs.paths.+diagnose_path_from+try_later.Tie.{close}
 
@@ -34,7 +35,7 @@ module _ (t : ℕ) where
   try-below = and 3 try-k.ps (falls 3 try-k.ps _<_ μ-try t) try-r.Pre
 
   abbrev from-c : fl.Claims
-  from-c = (hits-r.Asked, hits-r.Learnt, try-below, try-r.Post, from-below, from-r.Post)
+  from-c = (hits-r.Asked, hits-r.Learnt, far-r.Asked, far-r.Learnt, try-below, try-r.Post, from-below, from-r.Post)
 
   abbrev try-c : tl.Claims
   try-c = (from-below, from-r.Post, try-below, try-r.Post)
@@ -54,11 +55,8 @@ module _ (t : ℕ) where
   from-add-after : fl.Need-add-after from-c from-at from-r.Post
   from-add-after c = search needs
 
-  from-mul : fl.Need-mul-if4 from-c from-at from-r.Post
-  from-mul c = search needs
-
-  from-read : fl.Need-shared-slice-read-if4 from-c from-at from-r.Post
-  from-read c = search needs
+  from-far-requires : fl.Need-is-far-requires from-c from-at from-r.Post
+  from-far-requires c κs = search needs
 
   from-try-requires : fl.Need-try-later-requires from-c from-at from-r.Post
   from-try-requires c κs = search needs
@@ -111,5 +109,5 @@ module _ (t : ℕ) where
 pub +diagnose-path-from+try-later-spec : {M : Type 1} → statement M
 +diagnose-path-from+try-later-spec =
     close μ-from μ-try
-    (λ t. fl.spec (from-c t) (from-at t) from-r.Post (from-returns t) (from-hits-requires t) (from-returns-2 t) (from-add-next t) (from-add-after t) (from-mul t) (from-read t) (from-try-requires t) (from-from-requires t) (from-returns-3 t) (from-returns-4 t) (from-returns-5 t) (from-returns-6 t))
+    (λ t. fl.spec (from-c t) (from-at t) from-r.Post (from-returns t) (from-hits-requires t) (from-returns-2 t) (from-add-next t) (from-add-after t) (from-far-requires t) (from-try-requires t) (from-from-requires t) (from-returns-3 t) (from-returns-4 t) (from-returns-5 t) (from-returns-6 t))
     (λ t. tl.spec (try-c t) (try-at t) try-r.Post (try-returns t) (try-from-requires t) (try-add-next t) (try-told t) (try-told-2 t) (try-try-requires t) (try-try-requires-2 t) (try-returns-2 t) (try-returns-3 t) (try-returns-4 t))

@@ -11,6 +11,7 @@ use Rattle.selector.proofs.paths.matches_path_from.Reads as from-r
 use Rattle.selector.proofs.paths.matches_path_from.Kinds as from-k
 use Rattle.selector.proofs.paths.+matches_later+matches_path_from.Lts-matches_path_from as fl
 use Rattle.selector.proofs.paths.hits.Reads as hits-r
+use Rattle.selector.proofs.paths.is_far.Reads as far-r
 use Rattle.selector.proofs.paths.+matches_later+matches_path_from.{statement}
 use Rattle.selector.proofs.paths.+matches_later+matches_path_from.Tie.{close}
 
@@ -37,7 +38,7 @@ module _ (t : ℕ) where
   later-c = (from-below, from-r.Post, later-below, later-r.Post)
 
   abbrev from-c : fl.Claims
-  from-c = (hits-r.Asked, hits-r.Learnt, later-below, later-r.Post, from-below, from-r.Post)
+  from-c = (hits-r.Asked, hits-r.Learnt, far-r.Asked, far-r.Learnt, later-below, later-r.Post, from-below, from-r.Post)
 
   later-returns : ll.Need-returns later-c later-at later-r.Post
   later-returns c = search (matching, needs)
@@ -72,11 +73,8 @@ module _ (t : ℕ) where
   from-add-after : fl.Need-add-after from-c from-at from-r.Post
   from-add-after c = search needs
 
-  from-mul : fl.Need-mul-if4 from-c from-at from-r.Post
-  from-mul c = search needs
-
-  from-read : fl.Need-shared-slice-read-if4 from-c from-at from-r.Post
-  from-read c = search needs
+  from-far-requires : fl.Need-is-far-requires from-c from-at from-r.Post
+  from-far-requires c κs = search needs
 
   from-later-requires : fl.Need-matches-later-requires from-c from-at from-r.Post
   from-later-requires c κs = search needs
@@ -97,4 +95,4 @@ pub +matches-later+matches-path-from-spec : {M : Type 1} → statement M
 +matches-later+matches-path-from-spec =
     close μ-later μ-from
     (λ t. ll.spec (later-c t) (later-at t) later-r.Post (later-returns t) (later-from-requires t) (later-returns-2 t) (later-add t) (later-later-requires t) (later-returns-3 t))
-    (λ t. fl.spec (from-c t) (from-at t) from-r.Post (from-returns t) (from-hits-requires t) (from-returns-2 t) (from-add-next t) (from-add-after t) (from-mul t) (from-read t) (from-later-requires t) (from-from-requires t) (from-returns-3 t) (from-returns-4 t) (from-returns-5 t))
+    (λ t. fl.spec (from-c t) (from-at t) from-r.Post (from-returns t) (from-hits-requires t) (from-returns-2 t) (from-add-next t) (from-add-after t) (from-far-requires t) (from-later-requires t) (from-from-requires t) (from-returns-3 t) (from-returns-4 t) (from-returns-5 t))
