@@ -27,7 +27,7 @@ pub ids-untied : (steps c d : List ℕ) (n : ℕ) → idsHeld (selectorOf steps 
 ids-untied steps c d n = ids-counted steps c n ∙ sym (ids-counted steps d n)
 
 -- the sum of what was counted
-pub ids-summed : (steps : List ℕ) (n : ℕ) (s : Specificity) (a b : ℕ) → Summed steps n s → a ≡ s .1 → b ≡ s .0 → Ids steps n (a + b)
+pub ids-summed : (steps : List ℕ) (n : ℕ) (s : Specificity) (a b : ℕ) → Summed (countsIn steps n) s → a ≡ s .1 → b ≡ s .0 → Ids steps n (a + b)
 ids-summed steps n s a b h e f = record { same = rw (e, f, h .classes, h .pseudos) (sym (ids-counted steps [] n)); few = omega (arith, h .classes-few, h .pseudos-few) }
 
 -- the counts of a shaped sheet

@@ -1,21 +1,22 @@
--- 01: "Prove that the Rust's saturation is never met." The Rust saturates at 4,294,967,295; no sum of an accepted selector passes 64. Assumes nothing.
+-- 01: "Prove that the Rust's saturation is never met." The Rust saturates at 4,294,967,295; no sum of a selector passes 64. Assumes nothing.
 use mathlib.Core.Path.{_≡_, refl}
-use mathlib.Core.Bool.{Bool, true}
-use mathlib.Core.List.{List, []}
+use mathlib.Core.Bool.{true}
+use mathlib.Core.List.{List}
 use mathlib.Core.Option.{Option, none, some}
 use Prim.Native.Nat.{ℕ, zero, suc, _+_, _*_, _≤_, _<_}
-use native.Mathlib.Numerals.{add-one}
+use native.Mathlib.Nat.{zero-add}
 use native.Mathlib.Omega.{arith}
-use lib.ListN.{length}
+use Rattle.theory.specs.Lists.{spread}
 use Rattle.theory.specs.Weight.{Counts, total, weightOf}
 use Rattle.theory.proofs.Lists.{sort-length}
-use Rattle.lent.specs.All.{allBelow}
 use Rattle.lent.proofs.All.{all-at}
+use Rattle.selector.specs.declared.Specificity.{Specificity}
+use Rattle.selector.specs.Tags.{Tags}
 use Rattle.selector.specs.Rows.{rowAt, stepAt}
 use Rattle.selector.specs.Checks.{rowFits, selectorVerdict}
-use Rattle.selector.specs.Weighing.{isSet, countsOf, countsIn}
+use Rattle.selector.specs.Weighing.{isSet, countsOf, countsIn, Counted}
 use Rattle.selector.proofs.CheckLaws.{selector-passed}
-use Rattle.selector.proofs.WeighLaws.{counts-next, pseudos-few, classes-few}
+use Rattle.selector.proofs.WeighLaws.{total-next, pseudos-few, classes-few}
 
 set-few : (t : Option ℕ) → isSet t ≤ 1
 set-few none = omega arith
@@ -37,22 +38,39 @@ step-few steps k h = record {
   types = omega (arith, set-few (rowAt 8 steps (22 * k) .type));
 }
 
--- a count that is at most 8 in each step sums to at most 8 a step
-total-few : (g : Counts → ℕ) (steps : List ℕ) (n : ℕ) → ((k : ℕ) → k < n → g (countsOf (stepAt steps k)) ≤ 8) → total g (countsIn steps n) ≤ 8 * n
-total-few g steps zero h = unfold total countsIn in omega arith
-total-few g steps (suc n) h =
-    let e : total g (countsIn steps (suc n)) ≡ total g (countsIn steps n) + g (countsOf (stepAt steps n)) = rw add-one at (counts-next g steps n) in
-    omega (arith, total-few g steps n (λ k l. h k (omega arith)), h n (omega arith))
+pub counted-few : {t : Tags} {s : Specificity} → Counted t s → Few (countsOf t)
+counted-few c = record {
+  pseudos = omega (arith, c .pseudos, c .pseudos-few);
+  classes = omega (arith, c .classes, c .classes-few);
+  parts = omega (arith, c .parts, c .parts-few);
+  types = omega (arith, c .types, c .types-few);
+}
 
--- The four sums of an accepted selector, and with them both weights, stay far below it
-pub never-saturates : (steps : List ℕ) (n : ℕ) (combinators : List ℕ) (c : ℕ) → selectorVerdict steps n combinators c ≡ 0
-    → (weightOf 0 (countsIn steps n) .first ≤ 64) × (weightOf 0 (countsIn steps n) .second ≤ 64) × (weightOf 0 (countsIn steps n) .third ≤ 64)
-    × (weightOf 0 (countsIn steps n) .fourth ≤ 64) × (weightOf 1 (countsIn steps n) .first ≤ 128) × (weightOf 1 (countsIn steps n) .second ≤ 128)
+-- a count that is at most 8 in each step sums to at most 8 a step
+total-few : (g : Counts → ℕ) (f : ℕ → Counts) (k n : ℕ) → ((i : ℕ) → i < n → g (f (k + i)) ≤ 8) → total g (spread f k n) ≤ 8 * n
+total-few g f k zero h = unfold total in omega arith
+total-few g f k (suc n) h = omega (arith, total-next g f k n, total-few g f k n (λ i l. h i (omega arith)), h n (omega arith))
+
+-- Each sum, and with them each number of both weights, stays far below it
+pub record Unsaturated (l : List Counts) : Type 0 where
+  pub pseudos : weightOf 0 l .first ≤ 64
+  pub classes : weightOf 0 l .second ≤ 64
+  pub parts : weightOf 0 l .third ≤ 64
+  pub types : weightOf 0 l .fourth ≤ 64
+  pub ids : weightOf 1 l .first ≤ 128
+  pub tags : weightOf 1 l .second ≤ 128
+
+pub few-unsaturated : (f : ℕ → Counts) (k n : ℕ) → n ≤ 8 → ((i : ℕ) → i < n → Few (f (k + i))) → Unsaturated (spread f k n)
+few-unsaturated f k n h each =
+    let p = total-few (λ x. x .pseudos) f k n (λ i l. each i l .pseudos) in
+    let q = total-few (λ x. x .classes) f k n (λ i l. each i l .classes) in
+    let r = total-few (λ x. x .parts) f k n (λ i l. each i l .parts) in
+    let t = total-few (λ x. x .types) f k n (λ i l. each i l .types) in
+    record { pseudos = omega arith; classes = omega arith; parts = omega arith; types = omega arith; ids = omega arith; tags = omega arith }
+
+-- of an accepted selector. (Of a sheet's rule: `rule-never-saturates` in `sheet`)
+pub never-saturates : (steps : List ℕ) (n : ℕ) (combinators : List ℕ) (c : ℕ) → selectorVerdict steps n combinators c ≡ 0 → Unsaturated (countsIn steps n)
+unfolding countsIn
 never-saturates steps n combinators c z =
     let (few, rows) = selector-passed steps n combinators c _ refl z in
-    let each : (k : ℕ) → k < n → Few (countsOf (stepAt steps k)) = λ k l. step-few steps k (all-at _ n k l rows) in
-    let p = total-few (λ x. x .pseudos) steps n (λ k l. each k l .pseudos) in
-    let q = total-few (λ x. x .classes) steps n (λ k l. each k l .classes) in
-    let r = total-few (λ x. x .parts) steps n (λ k l. each k l .parts) in
-    let t = total-few (λ x. x .types) steps n (λ k l. each k l .types) in
-    (omega arith, omega arith, omega arith, omega arith, omega arith, omega arith)
+    few-unsaturated (λ k. countsOf (stepAt steps k)) 0 n few (λ k l. rw (zero-add k) (step-few steps k (all-at _ n k l rows)))

@@ -122,7 +122,7 @@ module _ {steps : List ℕ} {n k p c a t : ℕ} (m : Summing steps n k p c a t) 
     types-few = omega (arith, m .types-few, d .types-few);
   }
 
-  pub sum-end : n ≤ k → n ≤ 8 → Summed steps n (record { 0 = p; 1 = c; 2 = a; 3 = t })
+  pub sum-end : n ≤ k → n ≤ 8 → Summed (countsIn steps n) (record { 0 = p; 1 = c; 2 = a; 3 = t })
   sum-end h g =
       let e : k ≡ n = omega (arith, m .within) in
       record {
@@ -148,10 +148,10 @@ module _ (steps : List ℕ) (n : ℕ) (combinators : List ℕ) (c v : ℕ) (e : 
       let few : v < 10 = rw e (selector-number steps n combinators c) in
       rw (f, ← e, ne-eqb v 0 h) (told-of v (omega arith) (omega arith) (λ t. omega arith))
 
-  pub weigh-sums : (s : Specificity) → v ≡ 0 → Summed steps n s → 0 ∷ s .0 ∷ s .1 ∷ s .2 ∷ s .3 ∷ [] ≡ weighingOf 0 steps n combinators c
+  pub weigh-sums : (s : Specificity) → v ≡ 0 → Summed (countsIn steps n) s → 0 ∷ s .0 ∷ s .1 ∷ s .2 ∷ s .3 ∷ [] ≡ weighingOf 0 steps n combinators c
   unfolding weighingOf
   weigh-sums s z m = rw (← e, z, m .pseudos, m .classes, m .parts, m .types)
 
-  pub weigh-level3 : (s : Specificity) → v ≡ 0 → Summed steps n s → 0 ∷ (s .1 + s .0) ∷ (s .3 + s .2) ∷ 0 ∷ 0 ∷ [] ≡ weighingOf 1 steps n combinators c
+  pub weigh-level3 : (s : Specificity) → v ≡ 0 → Summed (countsIn steps n) s → 0 ∷ (s .1 + s .0) ∷ (s .3 + s .2) ∷ 0 ∷ 0 ∷ [] ≡ weighingOf 1 steps n combinators c
   unfolding weighingOf
   weigh-level3 s z m = rw (← e, z, m .pseudos, m .classes, m .parts, m .types)

@@ -5,7 +5,7 @@ use mathlib.Core.List.{List, [], _∷_}
 use Prim.Native.Nat.{ℕ, _≤_}
 use lib.ListN.{length}
 use Rattle.theory.specs.Lists.{spread}
-use Rattle.theory.specs.Weight.{Counts, total, Weight, weightOf}
+use Rattle.theory.specs.Weight.{Counts, total, Weight, weightNumbers, weightOf}
 use Rattle.lent.specs.Refusals.{told, answered}
 use Rattle.selector.specs.declared.Specificity.{Specificity}
 use Rattle.selector.specs.declared.Weighing.{Weighing}
@@ -37,12 +37,12 @@ pub record Counted (t : Tags) (s : Specificity) : Type 0 where
   pub parts-few : s .2 ≤ 8
   pub types-few : s .3 ≤ 8
 
--- s is the counts of n steps, each summed and at most 64: far below the Rust's saturation
-pub record Summed (steps : List ℕ) (n : ℕ) (s : Specificity) : Type 0 where
-  pub pseudos : s .0 ≡ total (λ c. c .pseudos) (countsIn steps n)
-  pub classes : s .1 ≡ total (λ c. c .classes) (countsIn steps n)
-  pub parts : s .2 ≡ total (λ c. c .parts) (countsIn steps n)
-  pub types : s .3 ≡ total (λ c. c .types) (countsIn steps n)
+-- s is these counts, each summed over the steps and at most 64: far below the Rust's saturation
+pub record Summed (l : List Counts) (s : Specificity) : Type 0 where
+  pub pseudos : s .0 ≡ total (λ c. c .pseudos) l
+  pub classes : s .1 ≡ total (λ c. c .classes) l
+  pub parts : s .2 ≡ total (λ c. c .parts) l
+  pub types : s .3 ≡ total (λ c. c .types) l
   pub pseudos-few : s .0 ≤ 64
   pub classes-few : s .1 ≤ 64
   pub parts-few : s .2 ≤ 64
@@ -54,7 +54,7 @@ weighingTold (Weighs w) = 0 ∷ w .0 ∷ w .1 ∷ w .2 ∷ w .3 ∷ []
 weighingTold (Refused r) = told r
 
 abbrev pub weightTold : Weight → List ℕ
-weightTold w = 0 ∷ w .first ∷ w .second ∷ w .third ∷ w .fourth ∷ []
+weightTold w = 0 ∷ weightNumbers w
 
 unfoldable pub weighingOf : ℕ → List ℕ → ℕ → List ℕ → ℕ → List ℕ
 weighingOf ranking steps n combinators c =

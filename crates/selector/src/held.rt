@@ -10,7 +10,7 @@ ghost use Rattle.lent.specs.Refusals.{check, firstOf};
 ghost use Rattle.selector.specs.Tags.{asSets, stepMatches};
 ghost use Rattle.selector.specs.Rows.{wordsFrom, rowAt};
 ghost use Rattle.selector.specs.Checks.{rowFits, selectorOver, combinatorsOff, codesOver, tagsAscend};
-ghost use Rattle.selector.specs.Weighing.{Counted, Summed};
+ghost use Rattle.selector.specs.Weighing.{countsIn, Counted, Summed};
 
 // The words from `at` on, as many as the word at `count` says.
 pub fn ids<'a>(words: &'a [u32], at: usize, count: usize) -> &'a [u32]
@@ -63,7 +63,7 @@ pub fn matches_row(steps: &[u32], s: usize, path: &[u32], x: usize) -> bool
 // Each count summed over n steps.
 pub fn sum(steps: &[u32], n: usize) -> Specificity
     requires { ⌜ (n ≤ 8) × (allBelow n (λ (k : ℕ). rowFits 8 (now steps) (22 * k)) ≡ true) ⌝ }
-    ensures { λ r. ⌜ Summed (now (steps .entry)) n r ⌝ }
+    ensures { λ r. ⌜ Summed (countsIn (now (steps .entry)) n) r ⌝ }
 {
     crate::weigh::sum(steps, n)
 }

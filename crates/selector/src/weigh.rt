@@ -15,7 +15,7 @@ ghost use Rattle.lent.specs.All.{allBelow};
 ghost use Rattle.selector.specs.Rows.{tagOf, rowAt};
 ghost use Rattle.selector.specs.Checks.{rowFits};
 ghost use Rattle.selector.specs.Tags.{asSets};
-ghost use Rattle.selector.specs.Weighing.{isSet, Counted, Summed, weighingTold, weighingOf};
+ghost use Rattle.selector.specs.Weighing.{isSet, countsIn, Counted, Summed, weighingTold, weighingOf};
 
 // How many different ids there are.
 fn different(given: &[u32]) -> u32
@@ -46,7 +46,7 @@ pub(crate) fn step_specificity(steps: &[u32], s: usize) -> Specificity
 // Each count summed over n steps.
 pub(crate) fn sum(steps: &[u32], n: usize) -> Specificity
     requires { ⌜ (n ≤ 8) × (allBelow n (λ (k : ℕ). rowFits 8 (now steps) (22 * k)) ≡ true) ⌝ }
-    ensures { λ r. ⌜ Summed (now (steps .entry)) n r ⌝ }
+    ensures { λ r. ⌜ Summed (countsIn (now (steps .entry)) n) r ⌝ }
 {
     let mut pseudos: u32 = 0;
     let mut classes: u32 = 0;

@@ -20,7 +20,7 @@ use Rattle.lent.specs.Refusals.{told, refusalOf, check, firstOf, answered}
 use Rattle.lent.specs.declared.Refusal.{Refusal}
 use Rattle.lent.specs.declared.Refusal.the-variants.{BrokenShape, CodeOutOfRange}
 use Rattle.lent.proofs.Refusals.{first-stop, first-go, first-clear}
-use Rattle.selector.specs.Weighing.{weightTold}
+use Rattle.selector.specs.Weighing.{Summed, weightTold}
 use Rattle.selector.specs.declared.Specificity.{Specificity}
 use Rattle.typed.specs.Typed.{asking, stepFrom}
 use Rattle.typed.specs.declared.SelectorStep.{SelectorStep}
@@ -32,7 +32,7 @@ use Rattle.sheet.specs.Layout
 use Rattle.sheet.specs.Layout.{rulesIn, stepsIn, entriesIn, stylesIn, styleEntriesIn, stepPlace}
 use Rattle.sheet.specs.Sheets.{partAt, entryAt, ruleAt, styleAt, sheetOf, countsFor, weightFor, between, ruleStepEnds, ruleEntryEnds, styleEntryEnds}
 use Rattle.sheet.specs.Shape.{sheetShape}
-use Rattle.sheet.specs.Reading.{sheetVerdict, ruleVerdict, weightVerdict, emptinessOf, ruleNumbers, styleNumbers, entryNumbers, combinatorNumbers, styleThere, weightFrom, Weighed, StepRead}
+use Rattle.sheet.specs.Reading.{sheetVerdict, ruleVerdict, weightVerdict, emptinessOf, ruleNumbers, styleNumbers, entryNumbers, combinatorNumbers, styleThere, weightFrom, StepRead}
 use Rattle.sheet.proofs.ReadLaws.{steps-few, entries-few, rule-steps-end, rule-entries-end, style-entries-end, rule-property-few, style-property-few}
 
 -- ---- elements of a list end to end
@@ -314,7 +314,7 @@ module _ (w : List ℕ) (r v : ℕ) (e : v ≡ ruleVerdict w r) (ranking : ℕ) 
     weight-told h s q = rw (last, le-ltb 1 ranking h, ← q)
 
 -- the sums are the weight in ranking 0, and added in pairs in ranking 1
-module _ (l : List Counts) (s : Specificity) (m : Weighed l s) where
+module _ (l : List Counts) (s : Specificity) (m : Summed l s) where
   pub sums-weigh : (ranking : ℕ) → ranking ≡ 0 → weightFrom s ≡ weightOf ranking l
   sums-weigh ranking k = rw (k, m .pseudos, m .classes, m .parts, m .types)
 

@@ -5,3 +5,4 @@ pub mod ReadLaws
 pub mod Answers
 pub mod Distinct
 pub mod Readers
+pub mod Saturation

@@ -12,7 +12,7 @@ use Rattle.theory.proofs.Spreads.{map-spread}
 use Rattle.lent.specs.Pool.{startOf}
 use Rattle.selector.specs.Rows.{rowAt, tagOf, wordsFrom}
 use Rattle.selector.specs.Checks.{tagsAscend}
-use Rattle.selector.specs.Weighing.{isSet, countsOf, Counted}
+use Rattle.selector.specs.Weighing.{isSet, countsOf, Counted, Summed}
 use Rattle.selector.specs.declared.Specificity.{Specificity}
 use Rattle.selector.proofs.WeighLaws.{total-next}
 use Rattle.sheet.specs.declared.StepVerdict.the-variants as step
@@ -21,7 +21,6 @@ use Rattle.sheet.specs.Layout.{rulesIn, stepsIn, entriesIn, stylesIn, st
 use Rattle.sheet.specs.Sheets.{partAt, ruleAt, countsFor, ruleStepEnds, ruleEntryEnds, styleEntryEnds}
 use Rattle.sheet.specs.Shape
 use Rattle.sheet.specs.Shape.{sheetShape}
-use Rattle.sheet.specs.Reading.{Weighed}
 use Rattle.sheet.proofs.Shaped.{ListShaped, shaped, step-end-within, entry-end-within, style-entry-end-within}
 
 -- ---- what the shape gives
@@ -107,10 +106,10 @@ module _ (w : List ℕ) (s : ℕ) (pre : (sheetShape w ≡ true) × (s < stepsIn
 
 -- ---- the sums
 
-abbrev countsAt : List ℕ → ℕ → Counts
+abbrev pub countsAt : List ℕ → ℕ → Counts
 countsAt w s = countsOf (rowAt 8 w (stepPlace s))
 
-counts-spread : (w : List ℕ) (r : ℕ) → countsFor (ruleAt w r .selector) ≡ spread (countsAt w) (startOf (ruleStepEnds w) r) (ruleStepEnds w r - startOf (ruleStepEnds w) r)
+pub counts-spread : (w : List ℕ) (r : ℕ) → countsFor (ruleAt w r .selector) ≡ spread (countsAt w) (startOf (ruleStepEnds w) r) (ruleStepEnds w r - startOf (ruleStepEnds w) r)
 unfolding ruleAt partAt
 counts-spread w r = map-spread (λ p. countsOf (p .step)) (partAt w) (startOf (ruleStepEnds w) r) (ruleStepEnds w r - startOf (ruleStepEnds w) r)
 
@@ -190,7 +189,7 @@ module _ {w : List ℕ} {r from to s p c a t : ℕ} (m : Adding w r from to s p 
       let q : s - from ≡ ruleStepEnds w r - startOf (ruleStepEnds w) r = omega (arith, m .to-is, m .from-is, m .within) in
       rw (q, m .from-is) (sym (counts-spread w r))
 
-  pub sum-end : to ≤ s → Weighed (countsFor (ruleAt w r .selector)) (record { 0 = p; 1 = c; 2 = a; 3 = t })
+  pub sum-end : to ≤ s → Summed (countsFor (ruleAt w r .selector)) (record { 0 = p; 1 = c; 2 = a; 3 = t })
   sum-end h = record {
     pseudos = m .pseudos ∙ ap (total (λ x. x .pseudos)) (whole h);
     classes = m .classes ∙ ap (total (λ x. x .classes)) (whole h);

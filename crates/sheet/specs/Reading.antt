@@ -3,11 +3,11 @@ use mathlib.Core.Path.{_≡_}
 use mathlib.Core.Bool.{Bool, true, false, cond, not, _&&_}
 use mathlib.Core.Option.{Option, none, some}
 use mathlib.Core.List.{List, [], _∷_}
-use Prim.Native.Nat.{ℕ, _+_, _≤_}
+use Prim.Native.Nat.{ℕ, _+_}
 use lib.ListN.{length, drop}
 use lib.Dec.{ltb, eqb}
 use Rattle.theory.specs.Paths.{Comb, child, descendant, Part}
-use Rattle.theory.specs.Weight.{Counts, total, Weight}
+use Rattle.theory.specs.Weight.{Weight}
 use Rattle.lent.specs.Refusals.{told, check, firstOf, answered}
 use Rattle.lent.specs.Pool.{startOf}
 use Rattle.selector.specs.Tags.{Tags}
@@ -124,18 +124,7 @@ styleThere w d numbers = answered (sheetVerdict w) (cond (ltb d (Layout.stylesIn
 abbrev pub weightFrom : Specificity → Weight
 weightFrom s = record { first = s .0; second = s .1; third = s .2; fourth = s .3 }
 
--- s is these counts summed over the steps, each at most 64
-pub record Weighed (l : List Counts) (s : Specificity) : Type 0 where
-  pub pseudos : s .0 ≡ total (λ c. c .pseudos) l
-  pub classes : s .1 ≡ total (λ c. c .classes) l
-  pub parts : s .2 ≡ total (λ c. c .parts) l
-  pub types : s .3 ≡ total (λ c. c .types) l
-  pub pseudos-few : s .0 ≤ 64
-  pub classes-few : s .1 ≤ 64
-  pub parts-few : s .2 ≤ 64
-  pub types-few : s .3 ≤ 64
-
--- "its steps as typed values": step i of rule r, read from its row; the step that asks for nothing where there is none
+-- Step i of rule r as a typed value, read from its row; the step that asks for nothing where there is none
 pub record StepRead (w : List ℕ) (r i : ℕ) (a : StepAnswer) : Type 0 where
   pub verdict : stepTold (a .verdict) ≡ answered (ruleVerdict w r) (cond (ltb i (length (ruleAt w r .selector))) (0 ∷ 1 ∷ []) (0 ∷ []))
   pub step : a .step

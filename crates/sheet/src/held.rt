@@ -9,11 +9,11 @@ ghost use mathlib.Core.Path.{_≡_};
 ghost use mathlib.Core.Bool.{true};
 ghost use Prim.Native.Nat.{_≤_, _<_};
 ghost use Rattle.selector.specs.Rows.{rowAt};
-ghost use Rattle.selector.specs.Weighing.{Counted};
+ghost use Rattle.selector.specs.Weighing.{Counted, Summed};
 ghost use Rattle.sheet.specs.Layout.{rulesIn, stepsIn, stepPlace};
 ghost use Rattle.sheet.specs.Sheets.{ruleAt, countsFor, weightFor};
 ghost use Rattle.sheet.specs.Shape.{sheetShape};
-ghost use Rattle.sheet.specs.Reading.{weightFrom, Weighed};
+ghost use Rattle.sheet.specs.Reading.{weightFrom};
 
 // The counts of step s: its ids are sets already.
 fn step_counts(sheet: &[u32], s: u32) -> Specificity
@@ -32,7 +32,7 @@ fn step_counts(sheet: &[u32], s: u32) -> Specificity
 // Each count summed over a rule's steps.
 fn sum(sheet: &[u32], number: u32) -> Specificity
     requires { ⌜ (sheetShape (now sheet) ≡ true) × (number < rulesIn (now sheet)) ⌝ }
-    ensures { λ r. ⌜ Weighed (countsFor (ruleAt (now (sheet .entry)) number .selector)) r ⌝ }
+    ensures { λ r. ⌜ Summed (countsFor (ruleAt (now (sheet .entry)) number .selector)) r ⌝ }
 {
     let steps = layout::RULE_STEP_ENDS;
     let from = start_of(sheet, steps, number);
