@@ -15,13 +15,13 @@ use Rattle.theory.proofs.Lists.{sort-length}
 use Rattle.theory.proofs.Spreads.{map-spread, spread-same, part-spread, spread-list}
 use Rattle.lent.specs.Buffers.{Holds}
 use Rattle.lent.proofs.Buffers.{held-length}
-use Rattle.selector.specs.Rows.{tagOf, wordsFrom, rowAt, combOf}
+use Rattle.selector.specs.Rows.{tagOf, tagNumber, wordsFrom, rowAt, combOf}
 use Rattle.selector.specs.Checks.{rowFits}
 use Rattle.selector.specs.Weighing.{isSet}
 use Rattle.selector.proofs.WeighLaws.{pseudos-few, classes-few}
 use Rattle.style.specs.Entries.{Entry, entriesOf}
 use Rattle.sheet.specs.Layout
-use Rattle.sheet.specs.Laying.{tagNumber, codeOf, idWords, stepWords, layEntries}
+use Rattle.sheet.specs.Laying.{codeOf, idWords, stepWords, layEntries}
 use Rattle.given.specs.Leaves.{partOf}
 
 -- ---- a tag

@@ -15,12 +15,12 @@ ghost use Prim.Native.Nat.{ℕ, _+_, _*_, _≤_, _<_};
 ghost use lib.ListN.{length, getD};
 ghost use lib.Seq.{sets};
 ghost use Rattle.lent.specs.All.{allBelow};
-ghost use Rattle.selector.specs.Rows.{tagOf};
+ghost use Rattle.selector.specs.Rows.{tagOf, tagNumber};
 ghost use Rattle.selector.specs.Checks.{rowFits};
 ghost use Rattle.selector.specs.Weighing.{isSet};
 ghost use Rattle.style.specs.Entries.{entriesOf};
 ghost use Rattle.sheet.specs.Layout.{stepPlace, RULE-ORIGIN, RULE-WORDS, STYLE-ORIGIN, STYLE-WORDS};
-ghost use Rattle.sheet.specs.Laying.{tagNumber, stepWords, layEntries};
+ghost use Rattle.sheet.specs.Laying.{stepWords, layEntries};
 ghost use Rattle.given.specs.Pushing.{allEntriesIn};
 ghost use Rattle.given.specs.Leaves.{CountsOf, countsList, partOf, Ids};
 

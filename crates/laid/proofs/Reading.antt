@@ -15,11 +15,11 @@ use Rattle.theory.proofs.Spreads.{spread-same, spread-more, spread-shift, sprea
 use Rattle.lent.specs.Pool.{endsIn, startOf}
 use Rattle.lent.proofs.Pool.{Rising, starts-rise}
 use Rattle.selector.specs.Tags.{Tags}
-use Rattle.selector.specs.Rows.{tagOf, wordsFrom, rowAt, combOf}
+use Rattle.selector.specs.Rows.{tagOf, tagNumber, wordsFrom, rowAt, combOf}
 use Rattle.selector.specs.Weighing.{isSet}
 use Rattle.sheet.specs.Layout
 use Rattle.sheet.specs.Sheets.{Style, Rule, between, ruleStepEnds, ruleEntryEnds, styleEntryEnds, partAt, entryAt, ruleAt, styleAt, sheetOf}
-use Rattle.sheet.specs.Laying.{tagNumber, codeOf, idWords, stepWords, ruleWords, styleWords, ruleEntries, styleEntries, stepsOf, lay}
+use Rattle.sheet.specs.Laying.{codeOf, idWords, stepWords, ruleWords, styleWords, ruleEntries, styleEntries, stepsOf, lay}
 use Rattle.laid.proofs.Frame.{Sizes, length-ids, length-step, length-lay, steps-flat, rules-after, steps-after, entries-after, styles-after, style-entries-after, next-after}
 use Rattle.laid.proofs.Frame.{rule-kept, rule-new, step-kept, step-new, style-kept, style-new, entry-kept, entry-new, style-entry-kept, style-entry-new}
 

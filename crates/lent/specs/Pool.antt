@@ -10,7 +10,7 @@ addressOf base stride row = base + stride * row
 unfoldable pub endsIn : List ℕ → ℕ → ℕ → ℕ → ℕ
 endsIn words base stride row = getD words (addressOf base stride row) 0
 
--- "list k runs from end k-1 (0 for the first) to end k"
+-- Lists stand end to end: list k runs from end k-1 (0 for the first) to end k
 unfoldable pub startOf : (ℕ → ℕ) → ℕ → ℕ
 startOf ends zero = 0
 startOf ends (suc k) = ends k

@@ -40,7 +40,7 @@ pub record Pushed (w : List ℕ) (styles : List Style) (rules : List Rule) (next
   pub rules-new : (k : ℕ) → k < length rules → ruleAt w′ (Layout.rulesIn w + k) ≡ getD rules k no-rule
   pub styles-count : Layout.stylesIn w′ ≡ Layout.stylesIn w + length styles
   pub styles-new : (k : ℕ) → k < length styles → styleAt w′ (Layout.stylesIn w + k) ≡ getD styles k no-style
-  -- "leaves every word past what it holds": those that are no count, and stand in no row and no entry that was added
+  -- every other word is left: those that are no count, and stand in no row and no entry that was added
   pub size : length w′ ≡ length w
   pub others : (i : ℕ) → Free w styles rules i → getD w′ i 0 ≡ getD w i 0
 

@@ -15,6 +15,11 @@ use Rattle.selector.specs.Tags.{Tags, asSets}
 abbrev pub tagOf : ℕ → ℕ → Option ℕ
 tagOf flag tag = cond (eqb flag 0) none (some tag)
 
+-- and of one that isn't set the number is 0
+abbrev pub tagNumber : Option ℕ → ℕ
+tagNumber none = 0
+tagNumber (some n) = n
+
 -- the first n of the words from `at` on
 abbrev pub wordsFrom : List ℕ → ℕ → ℕ → List ℕ
 wordsFrom words at n = take n (drop at words)

@@ -1,5 +1,4 @@
 -- The words after direct styles and rules have been added to those of a sheet. Assumes nothing.
-use mathlib.Core.Option.{Option, none, some}
 use mathlib.Core.List.{List, [], _∷_, _++_, map, flatMap}
 use Prim.Native.Nat.{ℕ, _+_, _-_, _*_}
 use lib.ListN.{length, replicate, take}
@@ -7,16 +6,13 @@ use lib.Seq.{sets}
 use Rattle.theory.specs.Paths.{Comb, child, descendant, Part, Selector}
 use Rattle.theory.specs.Weight.{total}
 use Rattle.selector.specs.Tags.{Tags}
+use Rattle.selector.specs.Rows.{tagNumber}
 use Rattle.selector.specs.Weighing.{isSet}
 use Rattle.style.specs.Entries.{Entry}
 use Rattle.sheet.specs.Layout
 use Rattle.sheet.specs.Sheets.{Style, Rule, countsFor}
 
 -- ---- rows
-
-abbrev pub tagNumber : Option ℕ → ℕ
-tagNumber none = 0
-tagNumber (some n) = n
 
 -- "0 child, 1 descendant"
 abbrev pub codeOf : Comb → ℕ
@@ -112,6 +108,6 @@ lay styles rules next w =
     0
     (countWords styles rules next w)
 
--- "make the empty sheet": the counts only
+-- The empty sheet: its counts are 0
 unfoldable pub emptied : List ℕ → List ℕ
 emptied w = sets w 0 (replicate 7 0)

@@ -25,10 +25,10 @@ use Rattle.typed.specs.declared.Verdict.the-variants.{Accepted, Refused}
 use Rattle.typed.specs.declared.SelectorInputsOwned.{SelectorInputsOwned}
 use Rattle.typed.specs.declared.SelectorStep.{SelectorStep}
 use Rattle.selector.proofs.RowLaws.{words-few}
-use Rattle.selector.specs.Rows.{tagOf, wordsFrom, rowAt}
+use Rattle.selector.specs.Rows.{tagOf, tagNumber, wordsFrom, rowAt}
 use Rattle.selector.specs.Weighing.{isSet}
 use Rattle.typed.specs.Typed.{typeOf, partOf, classNumber, pseudoNumber, inputsTags, stepTags, inputsOf, tagged}
-use Rattle.typed.specs.Typed.{tagNumber, rowWith, rowOf, inputsRow, stepRow, rowType, rowPart, inputsWith, stepWith, inputsFrom, stepFrom}
+use Rattle.typed.specs.Typed.{rowWith, rowOf, inputsRow, stepRow, rowType, rowPart, inputsWith, stepWith, inputsFrom, stepFrom}
 use Rattle.typed.specs.Typed.{ownedVerdict, idsRow, ownedInputs, Owned}
 
 -- ---- a list spelled out place by place

@@ -1,6 +1,6 @@
 -- Subjects and steps by value, with typed numbers, and the rows that they are written to and read from: 01, "Subjects and steps".
 -- Assumes nothing.
-use mathlib.Core.Path.{_≡_}
+use mathlib.Core.Path.{_≡_, refl}
 use mathlib.Core.Bool.{Bool, cond, _||_, not}
 use mathlib.Core.Option.{Option, none, some}
 use mathlib.Core.List.{List, [], _∷_, _++_}
@@ -22,7 +22,7 @@ use Rattle.typed.specs.declared.SelectorStep.{SelectorStep}
 use Rattle.typed.specs.declared.Verdict.{Verdict}
 use Rattle.typed.specs.declared.Verdict.the-variants.{Accepted, Refused}
 use Rattle.selector.specs.Tags.{Tags, asSets, stepMatches}
-use Rattle.selector.specs.Rows.{tagOf}
+use Rattle.selector.specs.Rows.{tagOf, tagNumber}
 use Rattle.selector.specs.Checks.{tagsAscend}
 use Rattle.selector.specs.Matching.{matchingTold, yesNo}
 use Rattle.selector.specs.Weighing.{isSet, countsOf, weightTold}
@@ -83,6 +83,10 @@ inputsOf t p classes n pseudos m = record {
 abbrev pub tagged : TypeChoice → PartChoice → SelectorInputs
 tagged t p = inputsOf t p (noClasses 16) 0 (noPseudos 16) 0
 
+empty-has-nothing : inputsTags (tagged TypeChoice.Unset PartChoice.Unset) ≡ record { type = none; part = none; classes = []; pseudos = [] }
+unfolding inputsTags
+empty-has-nothing = refl
+
 abbrev pub stepOf : TypeChoice → PartChoice → List ClassId → ℕ → List PseudoClassId → ℕ → SelectorStep
 stepOf t p classes n pseudos m = record {
   «type_tag» = t;
@@ -119,10 +123,6 @@ askingPseudo s c =
     stepOf (s .«type_tag») (s .«part_tag») (s .«required_classes») (s .«class_count») (added (s .«required_pseudos») (s .«pseudo_count») c) (raised (s .«pseudo_count»))
 
 -- ---- rows
-
-abbrev pub tagNumber : Option ℕ → ℕ
-tagNumber none = 0
-tagNumber (some n) = n
 
 -- A row: type flag, type, part flag, part, class count, pseudo count, then `size` classes and `size` pseudos
 abbrev pub rowWith : ℕ → ℕ → ℕ → ℕ → ℕ → ℕ → ℕ → (ℕ → ℕ) → (ℕ → ℕ) → List ℕ

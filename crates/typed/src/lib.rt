@@ -14,10 +14,10 @@ ghost use mathlib.Core.Path.{_≡_};
 ghost use Prim.Native.Nat.{ℕ, _≤_};
 ghost use lib.ListN.{drop, getD};
 ghost use Rattle.theory.specs.Lists.{sort, spread};
-ghost use Rattle.selector.specs.Rows.{tagOf, wordsFrom};
+ghost use Rattle.selector.specs.Rows.{tagOf, tagNumber, wordsFrom};
 ghost use Rattle.selector.specs.Matching.{matchingTold};
 ghost use Rattle.selector.specs.Weighing.{isSet, weighingTold};
-ghost use Rattle.typed.specs.Typed.{typeOf, partOf, classNumber, pseudoNumber, noClasses, inputsOf, tagged, asking, askingType, askingPart, askingClass, askingPseudo, tagNumber, rowWith, inputsRow, stepRow, typeFrom, partFrom, inputsWith, stepWith, inputsFrom, stepFrom, idsRow, Owned, stepMatching, stepWeighing};
+ghost use Rattle.typed.specs.Typed.{typeOf, partOf, classNumber, pseudoNumber, noClasses, inputsOf, tagged, asking, askingType, askingPart, askingClass, askingPseudo, rowWith, inputsRow, stepRow, typeFrom, partFrom, inputsWith, stepWith, inputsFrom, stepFrom, idsRow, Owned, stepMatching, stepWeighing};
 
 pub struct TypeTag(pub u32);
 
@@ -136,6 +136,13 @@ impl SelectorInputs {
         pseudos: [PseudoClassId(0); 16],
         pseudo_count: 0,
     };
+
+    // The same as a call: a contract can't name the constant.
+    pub fn empty() -> Self
+        ensures { λ r. ⌜ r ≡ tagged TypeChoice.Unset PartChoice.Unset ⌝ }
+    {
+        Self::EMPTY
+    }
 
     pub fn typed(type_tag: TypeTag) -> Self
         ensures { λ r. ⌜ r ≡ tagged (TypeChoice.Set «type_tag») PartChoice.Unset ⌝ }
