@@ -18,15 +18,17 @@ use Rattle.theory.proofs.Spreads.{length-spread, map-spread, getD-spread, getEl
 use Rattle.lent.proofs.Refusals.{first-clear}
 use Rattle.selector.specs.Tags.{Tags, asSets}
 use Rattle.selector.specs.Rows.{rowAt, stepAt, combBefore, selectorOf}
+use Rattle.selector.proofs.Saturation.{Unsaturated}
 use Rattle.typed.specs.Typed.{stepTags}
 use Rattle.sheet.specs.Layout
-use Rattle.sheet.specs.Sheets.{Style, Rule, Source, sourcesOf, keyOf, ruleAt, styleAt, sheetOf}
+use Rattle.sheet.specs.Sheets.{Style, Rule, Source, sourcesOf, keyOf, countsFor, ruleAt, styleAt, sheetOf}
 use Rattle.sheet.specs.Shape.{sheetShape}
 use Rattle.sheet.specs.Laying.{emptied}
 use Rattle.sheet.specs.Reading.{StepRead}
 use Rattle.sheet.specs.declared.StepAnswer.{StepAnswer}
 use Rattle.sheet.proofs.Shaped.{shaped}
 use Rattle.sheet.proofs.Readers.{step-of-rule}
+use Rattle.sheet.proofs.Saturation.{rule-never-saturates}
 use Rattle.laid.proofs.Reading.{before-or-added, no-rule}
 use Rattle.laid.proofs.Held.{rules-count}
 use Rattle.laid.proofs.Emptied.{read-emptied, shape-emptied}
@@ -128,17 +130,25 @@ made-orders (cascade {w} {v} m i e) = orders-pushed (cascade-pushed w v e) (made
 -- So no sum of matcher.rs is met where it saturates: `take_source_index`, the next index plus one; `offset_source_index`, the current index plus one
 -- of a cascade's own; `next_source_index_after`, the largest so made plus one (all usize); and an order is no u32 that `try_from` cuts.
 -- Each makes an index, a next index or an order of the sheet after an accepted push. (`next_order` is of `MatcherBuilder`, which is left behind)
+-- Nor is one of `Selector::specificity`, whose sums are u32
 pub record Bounded (w : List ℕ) : Type 0 where
   pub next : Layout.nextIn w ≤ 65536
   pub style-sources : (d : ℕ) → d < Layout.stylesIn w → styleAt w d .source ≤ 65535
   pub rule-sources : (r : ℕ) → r < Layout.rulesIn w → ruleAt w r .source ≤ 65535
   pub orders : Orders w
+  pub weights : (r : ℕ) → r < Layout.rulesIn w → Unsaturated (countsFor (ruleAt w r .selector))
 
 pub made-bounded : {w : List ℕ} → Made w → Bounded w
 unfolding ruleAt styleAt
 made-bounded {w} m =
     let s = shaped w (made-shaped m) in
-    record { next = s .next; style-sources = λ d h. s .each-style d h .source; rule-sources = λ r h. s .each-rule r h .source; orders = made-orders m }
+    record {
+      next = s .next;
+      style-sources = λ d h. s .each-style d h .source;
+      rule-sources = λ r h. s .each-rule r h .source;
+      orders = made-orders m;
+      weights = λ r h. rule-never-saturates w r (made-shaped m) h;
+    }
 
 -- ---- what was pushed is read back
 
