@@ -15,3 +15,7 @@ pub mod WalkSteps
 pub mod WalkRun
 pub mod WalkSheet
 pub mod WalkWinners
+pub mod Tails
+pub mod Sums
+pub mod Demand2
+pub mod Demand3
