@@ -19,3 +19,4 @@ pub mod Tails
 pub mod Sums
 pub mod Demand2
 pub mod Demand3
+pub mod Examples

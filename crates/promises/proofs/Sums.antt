@@ -28,7 +28,6 @@ use Rattle.sheet.specs.Sheets.{ruleAt, countsFor, ruleStepEnds}
 use Rattle.sheet.specs.Shape.{sheetShape}
 use Rattle.sheet.specs.Reading.{weightVerdict, weightFrom, Weighed}
 use Rattle.sheet.proofs.ReadLaws.{Adding, rule-steps, step-counted, sum-start, sum-there, sum-next, sum-end}
-
 use Rattle.matcher.proofs.Answers as answers
 use Rattle.promises.specs.Level3.{Standard}
 

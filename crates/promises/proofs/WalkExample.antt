@@ -18,10 +18,10 @@ use Rattle.promises.specs.Walk.{typed, step, walk, after}
 use Rattle.promises.proofs.Listed.{listed-exactly, listed-is, equal-lists-one-state}
 
 -- the rules that a path has in a sheet of these selectors
-abbrev rulesOn : Sheet Tags → List Tags → List ℕ
+abbrev pub rulesOn : Sheet Tags → List Tags → List ℕ
 rulesOn sheet path = select (λ k. fitsTail stepMatches (rule sheet k) path) (length sheet)
 
-lists : (sheet : Sheet Tags) {w : List ℕ} → selectorsOf w ≡ sheet → {t : Table} {number stamp : ℕ} {path : List Tags} → Reached w t number stamp path
+pub lists : (sheet : Sheet Tags) {w : List ℕ} → selectorsOf w ≡ sheet → {t : Table} {number stamp : ℕ} {path : List Tags} → Reached w t number stamp path
     → stateAt t number .matched ≡ rulesOn sheet path
 lists sheet {w} e {path = path} r = listed-is r ∙ ap (select (λ k. fitsTail stepMatches (rule (selectorsOf w) k) path)) (sym (length-selectors w)) ∙ ap (λ (s : Sheet Tags). rulesOn s path) e
 

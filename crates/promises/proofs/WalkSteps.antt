@@ -37,7 +37,7 @@ use Rattle.promises.specs.Walk.{typed, subject, walk, after, Lent, state
 use Rattle.promises.proofs.Calls.{build-reaches, build-one-state, enter-keeps, enter-reaches, enter-numbers}
 use Rattle.promises.proofs.WalkExample.{after-none, after-1, after-1-9, after-1-5, after-5, one-state, two-states}
 
-proper : (n : ℕ) → Proper (subject n)
+pub proper : (n : ℕ) → Proper (subject n)
 unfolding inputsTags ascendsFrom
 proper n = record { classes = omega arith; pseudos = omega arith; rise = refl }
 
