@@ -1,13 +1,14 @@
 -- Demand 2, where W3C Selectors Level 3 decides: "On 01's domain .. child and descendant matching are proved against W3C Selectors Level 3, as is the
 -- standard weight". Of the calls' own answers: each premise is the contract of a public call as it stands in src, or what says that it is not refused.
 -- Level 3's side is `Represents` and `specificity`, which theory's specs/Level3 writes from Level 3 alone. Assumes nothing.
-use mathlib.Core.Path.{_≡_, sym, ap, ap₂, _∙_}
-use mathlib.Core.Logic.{_↔_, Iff·trans, Iff·symm}
+use mathlib.Core.Path.{_≡_, refl, sym, ap, ap₂, _∙_}
+use mathlib.Core.Logic.{_≢_, _↔_, Iff·trans, Iff·symm}
 use mathlib.Core.Bool.{true}
 use mathlib.Core.List.{List, [], _∷_}
 use Prim.Native.Nat.{ℕ, _-_, _*_, _≤_, _<_}
 use native.Mathlib.Omega.{arith}
 use lib.ListN.{drop}
+use lib.IntN.{ℤ, pos}
 use denote.Ref.{RefT}
 use Rattle.theory.specs.Lists.{_∈_, compare}
 use Rattle.theory.specs.Paths.{Places}
@@ -15,6 +16,8 @@ use Rattle.theory.specs.Level3.{specificity}
 use Rattle.theory.specs.Reading.{simples}
 use Rattle.theory.specs.States.{rule}
 use Rattle.theory.specs.Weight.{Counts, Weight, weightNumbers, weightOf}
+use Rattle.theory.specs.Cascade.{compareKeys}
+use Rattle.theory.proofs.Compare.{compare-same}
 use Rattle.theory.proofs.Level3.{weight-order}
 use Rattle.lent.specs.Refusals.{answered}
 use Rattle.lent.proofs.Refusals.{first-clear}
@@ -39,11 +42,13 @@ use Rattle.sheet.specs.Sheets.{ruleAt, countsFor}
 use Rattle.sheet.specs.Reading.{weightVerdict, weightFrom, Weighed}
 use Rattle.table.specs.Tables.{Table, selectorsOf}
 use Rattle.matcher.specs.Answers.{Rules}
+use Rattle.keys.specs.declared.CascadeEntryKey.{CascadeEntryKey}
+use Rattle.keys.specs.Keys.{keyFrom}
 use Rattle.covered.specs.Covered.{Reached}
 use Rattle.promises.specs.Level3.{RepresentsLast, Standard}
 use Rattle.promises.proofs.Calls.{rules-exactly}
 use Rattle.promises.proofs.Tails.{tail-accepted, yes-fits, diagnosed-fits, tails-fit, last-is}
-use Rattle.promises.proofs.Sums.{weighs, sums-are, standard-is, selector-few, step-few, rule-there, rule-few}
+use Rattle.promises.proofs.Sums.{weighs, sums-are, standard-is, selector-few, step-few, rule-there, rule-few, compare-front}
 
 -- ---- `matches_path` and `diagnose_path`
 
@@ -139,3 +144,16 @@ module _ (w : List ℕ) (k : ℕ) (s : Specificity) where
 pub standard-order : {counts counts′ : List Counts} {s s′ : Specificity} → Standard counts s → Standard counts′ s′
     → compare (weightNumbers (weightFrom s)) (weightNumbers (weightFrom s′)) ≡ compare (specificity (simples counts)) (specificity (simples counts′))
 standard-order {counts} {counts′} a b = ap₂ (λ (v v′ : Weight). compare (weightNumbers v) (weightNumbers v′)) (a .weight) (b .weight) ∙ weight-order counts counts′
+
+-- and so do two keys of one origin, by `CascadeEntryKey::compare`: where Level 3 tells the specificities apart, index and order don't count
+module _ (k k′ : CascadeEntryKey) {counts counts′ : List Counts} (a : Standard counts (k .specificity)) (b : Standard counts′ (k′ .specificity)) (same : k .origin ≡ k′ .origin) where
+  pub keys-level3 : (r : ℤ) → r ≡ compareKeys (keyFrom k) (keyFrom k′)
+      → compare (specificity (simples counts)) (specificity (simples counts′)) ≢ pos 0
+      → r ≡ compare (specificity (simples counts)) (specificity (simples counts′))
+  unfolding compareKeys
+  keys-level3 r e n =
+      let order = standard-order a b in
+      e
+      ∙ compare-same (k .origin) (k′ .origin) _ _ same
+      ∙ compare-front (weightNumbers (weightFrom (k .specificity))) (weightNumbers (weightFrom (k′ .specificity))) _ _ refl (λ z. n (sym order ∙ z))
+      ∙ order

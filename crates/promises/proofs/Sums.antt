@@ -1,13 +1,16 @@
 -- What a call that answers a weight answers; that none of its sums passes 64. Proofs for Demand2.antt. Assumes nothing.
 use mathlib.Core.Path.{_≡_, refl, sym, ap, _∙_}
-use mathlib.Core.Bool.{true, false, not}
+use mathlib.Core.Bool.{Bool, true, false, not, cond}
+use mathlib.Core.Logic.{_≢_}
 use mathlib.Core.Option.{Option, none, some}
-use mathlib.Core.List.{List, [], _∷_}
+use mathlib.Core.List.{List, [], _∷_, _++_}
 use Prim.Native.Nat.{ℕ, zero, suc, _+_, _-_, _≤_, _<_}
 use native.Mathlib.Omega.{arith}
 use lib.ListN.{length, getD}
 use lib.Dec.{ltb}
+use lib.IntN.{pos, negsuc}
 use borrow.Author.Tests.{ltb-true, ltb-false, not-false}
+use Rattle.theory.specs.Lists.{compare}
 use Rattle.theory.specs.Weight.{Counts, total, Weight, weightOf}
 use Rattle.theory.proofs.Lists.{or-first, or-second, sort-length}
 use Rattle.theory.proofs.Spreads.{length-spread}
@@ -133,3 +136,18 @@ step-few x e =
       parts = omega (arith, set-few (partOf (x .«part_tag»)));
       types = omega (arith, set-few (typeOf (x .«type_tag»)));
     }
+
+-- ---- what begins two lists decides, unless it is the same
+
+pub compare-front : (l m a b : List ℕ) → length l ≡ length m → compare l m ≢ pos 0 → compare (l ++ a) (m ++ b) ≡ compare l m
+unfolding compare
+compare-front [] [] a b e n = absurd (n refl)
+compare-front [] (y ∷ m) a b e n = absurd (omega arith)
+compare-front (x ∷ l) [] a b e n = absurd (omega arith)
+compare-front (x ∷ l) (y ∷ m) a b e n = by (ltb x y) (ltb y x) n (compare-front l m a b (omega arith))
+  where
+    by : (p q : Bool) → cond p (negsuc 0) (cond q (pos 1) (compare l m)) ≢ pos 0 → (compare l m ≢ pos 0 → compare (l ++ a) (m ++ b) ≡ compare l m)
+        → cond p (negsuc 0) (cond q (pos 1) (compare (l ++ a) (m ++ b))) ≡ cond p (negsuc 0) (cond q (pos 1) (compare l m))
+    by true q n r = refl
+    by false true n r = refl
+    by false false n r = r n

@@ -1,12 +1,11 @@
--- 01's `walk` example as an instance of the theorem on lists, whatever the table; and P8. Assumes nothing.
+-- 01's `walk` example as an instance of the theorem on lists, whatever the table. Assumes nothing.
 use mathlib.Core.Path.{_≡_, refl, sym, ap, _∙_}
 use mathlib.Core.List.{List, [], _∷_, flatMap}
 use mathlib.Core.Logic.{_≢_}
 use Prim.Native.Nat.{ℕ, _+_, _*_}
 use native.Mathlib.Omega.{arith}
 use lib.ListN.{length}
-use Rattle.theory.specs.Lists.{_∈_, contained, insert, sort, select}
-use Rattle.theory.specs.Paths.{child, done, here}
+use Rattle.theory.specs.Lists.{contained, insert, sort, select}
 use Rattle.theory.specs.States.{Sheet, State, rule, enter, run}
 use Rattle.theory.proofs.Decide.{fitsTail}
 use Rattle.selector.specs.Tags.{Tags, tagOk, stepMatches}
@@ -14,8 +13,8 @@ use Rattle.table.specs.Tables.{Table, selectorsOf, stateAt}
 use Rattle.table.proofs.Selectors.{length-selectors}
 use Rattle.covered.specs.Covered.{Reached}
 use Rattle.covered.proofs.Reached.{reached-covered, reached-is}
-use Rattle.promises.specs.Walk.{typed, step, walk, after}
-use Rattle.promises.proofs.Listed.{listed-exactly, listed-is, equal-lists-one-state}
+use Rattle.promises.specs.Walk.{typed, walk, after}
+use Rattle.promises.proofs.Listed.{listed-is, equal-lists-one-state}
 
 -- the rules that a path has in a sheet of these selectors
 abbrev pub rulesOn : Sheet Tags → List Tags → List ℕ
@@ -106,10 +105,3 @@ module _ {w : List ℕ} (e : selectorsOf w ≡ walk) {t : Table} {a b stamp stam
 
   pub walk-not-one : Reached w t a stamp (typed 1 ∷ typed 5 ∷ []) → Reached w t b stamp′ (typed 5 ∷ []) → a ≢ b
   walk-not-one p q = two-states e p q after-1-5 after-5 (λ z. omega arith)
-
--- ---- "P8 entering c, a, b lists a>b", types a 1, b 2, c 3: whatever the sheet's other rules
-
-pub lists-p8 : {w : List ℕ} {t : Table} {number stamp k : ℕ} → rule (selectorsOf w) k ≡ step child 1 ∷ step child 2 ∷ []
-    → Reached w t number stamp (typed 3 ∷ typed 1 ∷ typed 2 ∷ []) → k ∈ stateAt t number .matched
-unfolding stepMatches tagOk contained
-lists-p8 {k = k} e r = listed-exactly r k .1 (rw e (omega arith, (1, (tt, here tt done))))
