@@ -1,4 +1,4 @@
--- Entering subject after subject, each under the child before: where that ends is reached by their path. Assumes nothing.
+-- Entering subject after subject, each under the child before: where that ends is reached by their path, also by the calls' contracts. Assumes nothing.
 use mathlib.Core.Path.{_≡_, refl, sym, ap, _∙_, subst}
 use mathlib.Core.Logic.{inl, inr}
 use mathlib.Core.List.{List, [], _∷_, _++_, map, map-append, append-nil, List·Memᴰ·head, List·Memᴰ·tail, List·Memᴰ·cases-cons, List·Memᴰ·not-nil, List·Memᴰ·eq-of-singleton}
@@ -11,13 +11,20 @@ use Rattle.selector.specs.Tags.{Tags}
 use Rattle.typed.specs.declared.SelectorInputs.{SelectorInputs}
 use Rattle.typed.specs.Typed.{inputsTags, inputsRow}
 use Rattle.table.specs.Tables.{Table}
+use Rattle.table.specs.Entering as Memory
 use Rattle.table.specs.Entering.{entered, childOf}
-use Rattle.covered.specs.Covered.{Enters, Reached, After}
+use Rattle.matcher.specs.Answers.{Build, Enter}
+use Rattle.matcher.specs.declared.MatchState.{MatchState}
+use Rattle.matcher.specs.declared.Building.{Building}
+use Rattle.matcher.specs.declared.Entering.{Entering}
+use Rattle.covered.specs.Covered.{Builds, Enters, Reached, After}
 use Rattle.covered.specs.Covered.Reached.{root, child, later}
 use Rattle.covered.specs.Covered.After.{more}
 use Rattle.covered.specs.Rooms.{Proper, verdictsAlong, tableAlong, numberAlong}
 use Rattle.covered.proofs.Accepted.{enter-accepted}
 use Rattle.covered.proofs.Promises.{equal-proper}
+use Rattle.promises.specs.Called.{Called}
+use Rattle.promises.specs.Called.Called.{built, entered as calls-entered}
 
 map-in : {A B : Type 0} (f : A → B) (l : List A) (x : A) → x ∈ l → f x ∈ map f l
 map-in f [] x m = absurd (List·Memᴰ·not-nil m)
@@ -57,3 +64,21 @@ module _ {w : List ℕ} where
   reached-subjects (root t stamp ranking b) = ([], refl)
   reached-subjects (child r x v) = let (xs, e) = reached-subjects r in (xs ++ x ∷ [], ap (λ (l : List Tags). l ++ inputsTags x ∷ []) e ∙ sym (map-append inputsTags xs (x ∷ [])))
   reached-subjects (later r number stamp x v) = reached-subjects r
+
+-- ---- by the contracts
+
+module _ {w : List ℕ} {ranking : ℕ} where
+  pub built-called : (t : Table) (stamp : ℕ) → Builds w ranking t → Called w ranking (Memory.built w stamp ranking t) 0 stamp []
+  built-called t stamp (eight, v) = let b : Build w stamp ranking t Building.Built (Memory.built w stamp ranking t) = record { answer = rw v; memory = rw v } in built eight b
+
+  pub along-called : (xs : List SelectorInputs) {t : Table} {number stamp : ℕ} {path : List Tags} → Called w ranking t number stamp path
+      → verdictsAlong w t number stamp xs ≡ replicate (length xs) 0
+      → Called w ranking (tableAlong w t number xs) (numberAlong w t number xs) stamp (path ++ map inputsTags xs)
+  unfolding tableAlong numberAlong verdictsAlong
+  along-called [] {path = path} c e = rw (append-nil path) c
+  along-called (x ∷ xs) {t = t} {number = number} {stamp = stamp} {path = path} c e =
+      let v : Enters w t number stamp x = ap (λ (l : List ℕ). getD l 0 0) e in
+      let s : MatchState = record { number = childOf w t number (inputsRow x); stamp = stamp } in
+      let u : Enter w t number stamp (inputsRow x) (Entering.Entered s) (entered w t number (inputsRow x)) = record { answer = rw v; memory = rw v } in
+      let step = along-called xs (calls-entered c x u) (ap (drop 1) e) in
+      subst (Called w ranking (tableAlong w (entered w t number (inputsRow x)) (childOf w t number (inputsRow x)) xs) (numberAlong w (entered w t number (inputsRow x)) (childOf w t number (inputsRow x)) xs) stamp) (append-snoc path (inputsTags x) (map inputsTags xs)) step

@@ -53,8 +53,7 @@ use Rattle.promises.proofs.Sums.{weighs, sums-are, standard-is, selecto
 -- ---- `matches_path` and `diagnose_path`
 
 module _ (steps : List ℕ) (n : ℕ) (combinators : List ℕ) (c : ℕ) (path : List ℕ) (m : ℕ) where
-  -- diagnosis answers a fit exactly if matching answers yes, whatever is given, refused or not:
-  -- so that all that follows is so of both
+  -- diagnosis answers a fit exactly if matching answers yes, whatever is given, refused or not: so that all that follows is so of both
   pub diagnoses-as-matches : (r : Matching) → matchingTold r ≡ matchingOf steps n combinators c path m → (d : Diagnosis) → diagnosisTold d ≡ diagnosisOf steps n combinators c path m
       → (d ≡ diagnosis.Fits) ↔ (r ≡ Yes)
   diagnoses-as-matches r e d f =

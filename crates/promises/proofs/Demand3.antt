@@ -1,22 +1,22 @@
 -- Demand 3, over lent memory, by the contracts of the calls alone. "For a sheet made by accepted pushes and unwritten since, and a table last built of it and
 -- since written only by accepted calls given it, in any order" (`Called`): three clauses. That the sheet was made is asked for the third alone. Assumes nothing.
-use mathlib.Core.Path.{_≡_, refl, sym, ap, _∙_, subst}
+use mathlib.Core.Path.{_≡_, refl, sym, ap, _∙_}
 use mathlib.Core.Logic.{_≢_, _↔_}
 use mathlib.Core.Option.{Option, none, some}
 use mathlib.Core.List.{List, [], _∷_, map}
-use Prim.Native.Nat.{ℕ, _<_}
+use Prim.Native.Nat.{ℕ, _≤_, _<_}
 use lib.ListN.{length, getD, take, replicate}
 use lib.Seq.{take-append-seam}
 use denote.Ref.{RefT}
 use Rattle.theory.specs.Lists.{_∈_, Ascending}
 use Rattle.theory.specs.Paths.{FitsTail}
-use Rattle.theory.specs.States.{State, rule}
+use Rattle.theory.specs.States.{rule}
 use Rattle.lent.specs.Refusals.{answered}
 use Rattle.selector.specs.Tags.{Tags, stepMatches}
 use Rattle.typed.specs.declared.SelectorInputs.{SelectorInputs}
 use Rattle.typed.specs.Typed.{inputsTags}
 use Rattle.made.specs.Made.{Made}
-use Rattle.table.specs.Tables.{Table, selectorsOf, rankingIn, stateAt}
+use Rattle.table.specs.Tables.{Table, selectorsOf, rankingIn}
 use Rattle.table.specs.Entering.{built}
 use Rattle.table.specs.Calls.{stateVerdict}
 use Rattle.matcher.specs.Answers.{Rules}
@@ -31,13 +31,12 @@ use Rattle.cascade.specs.declared.Winning.{Winning}
 use Rattle.cascade.proofs.Distinct.{winning-distinct}
 use Rattle.covered.specs.Covered.{Builds, Reached}
 use Rattle.covered.specs.Rooms.{Roomy, verdictsAlong, tableAlong, numberAlong}
-use Rattle.covered.proofs.Reached.{reached-covered, reached-is}
+use Rattle.covered.proofs.Reached.{covered-sound, reached-covered, reached-is}
 use Rattle.promises.specs.Called.{Called}
 use Rattle.promises.specs.Called.Called.{built as is-built, entered, later, notBuilt, notEntered}
-use Rattle.promises.proofs.Along.{reached-subjects}
-use Rattle.promises.proofs.Listed.{fresh-builds, fresh-enters, fresh-same-rules}
+use Rattle.promises.proofs.Along.{reached-subjects, built-called, along-called}
+use Rattle.promises.proofs.Listed.{fresh-builds, fresh-enters}
 use Rattle.promises.proofs.Calls.{build-reaches, enter-reaches, enter-keeps, refused-build-keeps, refused-enter-keeps, reached-accepted, rules-exactly, rules-ascending, rules-given}
-use Rattle.promises.proofs.Winning.{ranking-ranks, fresh-same-winners}
 use Rattle.promises.proofs.Changing.{changed-ascend, changed-exactly}
 use Rattle.promises.proofs.CascadeCalls.{build-ranks, enter-ranks, winners-alike, changed-listed}
 
@@ -86,23 +85,19 @@ module _ {w : List ℕ} {ranking : ℕ} where
   pub called-subjects : {t : Table} {number stamp : ℕ} {path : List Tags} → Called w ranking t number stamp path → (xs : List SelectorInputs) × (path ≡ map inputsTags xs)
   called-subjects c = reached-subjects (called-reached c)
 
-  -- and a fresh table with room (`Roomy`) for their states takes them all: build is accepted, every entering is, and rules and winners are the same.
-  -- `built`, `tableAlong` and `numberAlong` are the memory and the last state that the contracts of build and enter_subject give
+  -- and a fresh table with room (`Roomy`) for their states takes them all: build is accepted, every entering is, and then the state at last is one of which
+  -- `same-rules` and `same-winners` speak. `built`, `tableAlong` and `numberAlong` are the memory and the state that the calls' contracts give
   module _ (xs : List SelectorInputs) {t : Table} {number stamp : ℕ} (c : Called w ranking t number stamp (map inputsTags xs)) (fresh : Table)
       (eight : length (fresh .head) ≡ 8) (room : Roomy w (map inputsTags xs) fresh) (stamp′ : ℕ) where
     pub fresh-table : Builds w ranking fresh
         × (verdictsAlong w (built w stamp′ ranking fresh) 0 stamp′ xs ≡ replicate (length xs) 0)
-        × (stateAt (tableAlong w (built w stamp′ ranking fresh) 0 xs) (numberAlong w (built w stamp′ ranking fresh) 0 xs) .matched ≡ stateAt t number .matched)
-        × ((p : ℕ) → winnerIn w (tableAlong w (built w stamp′ ranking fresh) 0 xs) (numberAlong w (built w stamp′ ranking fresh) 0 xs) p ≡ winnerIn w t number p)
+        × Called w ranking (tableAlong w (built w stamp′ ranking fresh) 0 xs) (numberAlong w (built w stamp′ ranking fresh) 0 xs) stamp′ (map inputsTags xs)
     fresh-table =
         let r = called-reached c in
-        let ranks = called-ranks c in
-        let few = rw ranks at (ranking-ranks xs r fresh eight room stamp′) in (
-          fresh-builds xs r fresh eight room ranking few stamp′,
-          fresh-enters xs r fresh eight room ranking few stamp′,
-          ap (λ (s : State). s .matched) (fresh-same-rules xs r fresh eight room ranking few stamp′),
-          subst (λ (k : ℕ). (p : ℕ) → winnerIn w (tableAlong w (built w stamp′ k fresh) 0 xs) (numberAlong w (built w stamp′ k fresh) 0 xs) p ≡ winnerIn w t number p) ranks (fresh-same-winners xs r fresh eight room stamp′),
-        )
+        let ranks : ranking ≤ 1 = rw (called-ranks c) at (covered-sound w (reached-covered w r) .ranking) in
+        let b = fresh-builds xs r fresh eight room ranking ranks stamp′ in
+        let e = fresh-enters xs r fresh eight room ranking ranks stamp′ in
+        (b, e, along-called xs (built-called fresh stamp′ b) e)
 
 -- what is told of a winner tells it
 readPlace : List ℕ → Option Place

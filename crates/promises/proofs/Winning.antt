@@ -82,7 +82,7 @@ module _ {w : List ℕ} where
   module _ (xs : List SelectorInputs) {t : Table} {number stamp : ℕ} (r : Reached w t number stamp (map inputsTags xs)) (fresh : Table)
       (eight : length (fresh .head) ≡ 8) (room : Roomy w (map inputsTags xs) fresh) (stamp′ : ℕ) where
     -- a table's ranking is one that build accepts
-    pub ranking-ranks : rankingIn (t .head) ≤ 1
+    ranking-ranks : rankingIn (t .head) ≤ 1
     ranking-ranks = covered-sound w (reached-covered w r) .ranking
 
     abbrev again : Table
