@@ -1,16 +1,15 @@
 -- P1 to P8 of 01, a single table under a single theorem. Assumes nothing.
 use mathlib.Core.Path.{_≡_, refl, sym, ap, _∙_, subst}
-use mathlib.Core.List.{List, [], _∷_, _++_, map, map-append, append-nil, flatMap, Memᴰ·of-map}
-use Prim.Native.Nat.{ℕ, _+_, _≤_, _<_}
+use mathlib.Core.List.{List, [], _∷_, _++_, map, append-nil, flatMap, Memᴰ·of-map}
+use Prim.Native.Nat.{ℕ, _+_, _≤_}
 use native.Mathlib.Omega.{arith}
 use lib.ListN.{length, getD, drop, replicate, length-replicate}
 use lib.Seq.{append-snoc}
 use borrow.Author.Tests.{le-ltb}
 use Rattle.theory.specs.Lists.{_∈_, ascendsFrom, member, contained, insert, sort, select, atMost, sumBelow, compare}
 use Rattle.theory.specs.Paths.{child}
-use Rattle.theory.specs.States.{Sheet, State, rule, root, enter}
+use Rattle.theory.specs.States.{Sheet, State, root, enter}
 use Rattle.theory.specs.Weight.{total}
-use Rattle.theory.proofs.Decide.{fitsTail}
 use Rattle.lent.specs.All.{allBelow}
 use Rattle.lent.specs.Refusals.{firstOf, checksBelow}
 use Rattle.selector.specs.Tags.{Tags, tagOk, stepMatches}
@@ -19,28 +18,27 @@ use Rattle.selector.specs.Checks.{selectorOver, pathOver, codesOver, subjectsOf
 use Rattle.selector.specs.Diagnosing.{goOn, tryFrom, judge, diagnose, diagnosisOf}
 use Rattle.selector.specs.Weighing.{countsOf}
 use Rattle.typed.specs.declared.SelectorInputs.{SelectorInputs}
-use Rattle.typed.specs.Typed.{inputsTags, inputsRow, stepTags, stepVerdict, stepMatching}
+use Rattle.typed.specs.Typed.{inputsTags, stepTags, stepVerdict, stepMatching}
 use Rattle.style.specs.Checks.{entriesOver, kindsOver, propertiesOff}
 use Rattle.style.specs.Entries.{entriesOf}
 use Rattle.sheet.specs.Layout
 use Rattle.sheet.specs.Sheets as sheets
-use Rattle.sheet.specs.Sheets.{sheetOf}
 use Rattle.sheet.specs.Laying.{idsHeld, emptied}
 use Rattle.laid.proofs.Emptied.{zero-count, read-emptied, shape-emptied}
 use Rattle.given.specs.Given.{selectorGiven, entriesGiven, ruleGiven, rulesGiven}
-use Rattle.given.specs.Pushing.{emptyVerdict, rulesOver, ruleChecks, groupVerdict, pushedGroup}
+use Rattle.given.specs.Pushing.{emptyVerdict, rulesOver, ruleChecks, groupVerdict}
 use Rattle.made.specs.Made.{Halves, Made, group}
 use Rattle.made.proofs.Distinct.{added}
 use Rattle.made.proofs.Pushed.{group-pushed}
 use Rattle.made.proofs.Calls.{some-made}
 use Rattle.table.specs.Tables.{Table, selectorsOf}
-use Rattle.covered.specs.Covered.{Builds, Enters, Reached}
+use Rattle.covered.specs.Covered.{Enters, Reached}
 use Rattle.covered.specs.Covered.Reached.{root as is-root, child as is-child}
-use Rattle.covered.specs.Rooms.{holds, heldAlong, statesFor, Enough, Roomy, Proper, verdictsAlong}
+use Rattle.covered.specs.Rooms.{holds, heldAlong, Enough, Roomy, Proper, verdictsAlong}
 use Rattle.promises.specs.Walk as walk
 use Rattle.promises.specs.Walk.{subject}
 use Rattle.promises.specs.Examples.{listedAlong, listedAfter, sheetWith, listedOf, lent, answer, oneRule, table}
-use Rattle.promises.proofs.Listed.{listed-is, room-builds, room-suffices}
+use Rattle.promises.proofs.Listed.{room-builds, room-suffices}
 use Rattle.promises.proofs.Calls.{reached-accepted}
 use Rattle.promises.proofs.WalkExample.{rulesOn, lists}
 use Rattle.promises.proofs.WalkSteps.{proper}

@@ -1,7 +1,7 @@
 -- Level 3's words on 01's selectors, paths and weights. Assumes nothing.
 use mathlib.Core.Path.{_≡_}
 use mathlib.Core.List.{List, [], _∷_}
-use Prim.Native.Nat.{ℕ, _≤_}
+use Prim.Native.Nat.{_≤_}
 use Rattle.theory.specs.Paths.{Selector}
 use Rattle.theory.specs.Level3.{Represents, specificity}
 use Rattle.theory.specs.Reading.{chainOf, elementOf, simples}
