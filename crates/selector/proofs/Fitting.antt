@@ -121,7 +121,7 @@ matching-places steps n combinators c path m z =
 
 -- ---- tails
 
-subject-drop : (path : List ℕ) (j i : ℕ) → subjectAt (drop (38 * j) path) i ≡ subjectAt path (j + i)
+pub subject-drop : (path : List ℕ) (j i : ℕ) → subjectAt (drop (38 * j) path) i ≡ subjectAt path (j + i)
 unfolding rowAt
 subject-drop path j i =
     let a : 38 * (j + i) ≡ 38 * j + 38 * i = omega arith in

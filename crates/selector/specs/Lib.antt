@@ -4,4 +4,3 @@ pub mod Checks
 pub mod Matching
 pub mod Diagnosing
 pub mod Weighing
-pub mod Examples
