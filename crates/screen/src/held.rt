@@ -1,12 +1,14 @@
 // Input read in pieces.
 use libc::STDIN_FILENO;
-ghost use Prim.Native.Nat.{_≤_};
-ghost use lib.ListN.{length};
+ghost use mathlib.Core.Path.{_≡_};
+ghost use Prim.Native.Nat.{_≤_, _-_};
+ghost use lib.ListN.{length, take, drop};
+ghost use lib.Seq.{sets};
 
 // Moves the bytes from `at` on to the front; how many they are.
 pub fn shift(input: &mut [u8], at: usize) -> usize
     requires { ⌜ at ≤ length (now input) ⌝ }
-    ensures { λ r. ⌜ r ≤ length (now (input .entry)) ⌝ }
+    ensures { λ r. ⌜ (r ≡ length (now (input .entry)) - at) × (now (input .exit) ≡ sets (now (input .entry)) 0 (drop at (now (input .entry)))) ⌝ }
 {
     let left = input.len() - at;
     let mut i = 0;
@@ -20,7 +22,7 @@ pub fn shift(input: &mut [u8], at: usize) -> usize
 // Reads on after the `have` bytes at hand, until the buffer is full or the input ends; how many are at hand then.
 pub fn fill(input: &mut [u8], have: usize) -> usize
     requires { ⌜ have ≤ length (now input) ⌝ }
-    ensures { λ r. ⌜ r ≤ length (now (input .entry)) ⌝ }
+    ensures { λ r. ⌜ (have ≤ r) × (r ≤ length (now (input .entry))) × (take have (now (input .exit)) ≡ take have (now (input .entry))) ⌝ }
 {
     have + io::read_full(STDIN_FILENO, &mut input[have..])
 }

@@ -1,14 +1,13 @@
 -- `screen::held::shift` meets its contract. Assumes nothing.
-use Prim.Native.Nat.{_≤_, _-_, _+_}
-use mathlib.Core.Path.{_≡_}
+use Prim.Native.Nat.{_-_}
 use native.Mathlib.Omega.{arith}
-use lib.ListN.{length, length-set}
 use borrow.Author.Needs.{needs}
+use Rattle.screen.proofs.Shifting.{Moving, moved-start, moved-one, moved-end}
 use Rattle.screen.proofs.held.shift.Statement.{statement}
 use Rattle.screen.proofs.held.shift.Tie as tie
 
 abbrev Inv-loop : tie.InvT-loop
-Inv-loop input₀ at left i₀ input i = (i ≤ left) × (left + at ≡ length input₀) × (length input ≡ length input₀)
+Inv-loop input₀ at left i₀ input i = Moving input₀ at left i input
 
 abbrev μ-loop : tie.MeasureT-loop
 μ-loop input₀ at left i₀ input i = left - i
@@ -17,7 +16,7 @@ sub-left : tie.Need-sub-left Inv-loop μ-loop
 sub-left c = search needs
 
 loop-holds : tie.Need-loop-holds Inv-loop μ-loop
-loop-holds c = search needs
+loop-holds c = search (moved-start, needs)
 
 add-input : tie.Need-add-input Inv-loop μ-loop
 add-input c = search needs
@@ -35,13 +34,13 @@ loop-less : tie.Need-loop-less Inv-loop μ-loop
 loop-less c = search needs
 
 loop-again : tie.Need-loop-again Inv-loop μ-loop
-loop-again c = simp length-set (omega arith)
+loop-again c = search (moved-one, needs)
 
 same-length : tie.Need-same-length Inv-loop μ-loop
 same-length c = search needs
 
 returns : tie.Need-returns Inv-loop μ-loop
-returns c = search needs
+returns c = moved-end (c .before .loop .inv) (omega arith)
 
 pub shift-spec : {M : Type 1} → statement M
 shift-spec =
