@@ -138,6 +138,14 @@ pub fn record_in(bytes: &[u8]) -> Record
     }
 }
 
+// A property id as the calls take it.
+pub fn half(x: u32) -> u16
+    requires { ⌜ x < 65536 ⌝ }
+    ensures { λ r. ⌜ r ≡ x ⌝ }
+{
+    x as u16
+}
+
 // ---- a row of a step or of a subject, item by item; it has room for `size` classes and `size` pseudos
 
 // Where the count of classes (2) or of pseudos (3) stands.
