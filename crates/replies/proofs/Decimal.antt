@@ -30,12 +30,6 @@ decimal-short (suc k) n = elim (decLt n 10) [
       rw (decimal-more k n (omega arith), length-append (decimalIn k (n / 10)) (glyph (n % 10) ∷ [])) (omega arith)
 ]
 
-pub decimal-some : (n : ℕ) → 1 ≤ length (decimal n)
-decimal-some n = elim (decLt n 10) [
-  | yes h ↦ rw (decimal-one 19 n h) (omega arith)
-  | no h ↦ rw (decimal-more 19 n (omega arith), length-append (decimalIn 19 (n / 10)) (glyph (n % 10) ∷ [])) (omega arith)
-]
-
 -- ---- what it is
 
 module _ (n k : ℕ) (few : Fewest 10 1 n (suc (suc k))) where

@@ -1,6 +1,6 @@
 -- Items taken one by one, and the subject that they make. Assumes nothing.
 use mathlib.Core.Path.{_≡_, refl, sym, ap, _∙_}
-use mathlib.Core.Bool.{Bool, true, false, cond, not}
+use mathlib.Core.Bool.{Bool, true, false, not}
 use mathlib.Core.List.{List, [], append-nil}
 use Prim.Native.Nat.{ℕ, _+_, _≤_, _<_}
 use native.Mathlib.Nat.{zero-add}
@@ -27,26 +27,26 @@ use Rattle.covered.proofs.Accepted.{row-tags}
 use Rattle.records.specs.Rows.{emptyRow, withItem, itemOver}
 use Rattle.replies.specs.declared.Replied.{Replied}
 use Rattle.replies.specs.Lines.{refusedLine, Said}
-use Rattle.replies.specs.Walking.{subjectOf, itemFault, withFit, itemLine}
+use Rattle.replies.specs.Walking.{subjectOf, printed, itemFault, withFit}
 
 -- ---- an item, by each way through the code
 
 module _ (row : List ℕ) (which id : ℕ) where
   -- the answer, and the row after
   abbrev Takes : ℕ → List ℕ → Type 0
-  Takes r row′ = (r ≡ itemFault row which) × (row′ ≡ cond (eqb (itemFault row which) 0) (withItem 16 which id row) row)
+  Takes r row′ = (r ≡ itemFault row which) × (row′ ≡ withFit row which id)
 
   pub item-unknown : 3 < which → Takes 10 row
-  unfolding itemFault firstOf
+  unfolding itemFault withFit firstOf
   item-unknown h = (rw (lt-ltb 3 which h), rw (lt-ltb 3 which h))
 
   module _ (h : which ≤ 3) (b : Bool) (e : b ≡ itemOver 16 which row) where
     pub item-over : b ≡ true → Takes 2 row
-    unfolding itemFault firstOf
+    unfolding itemFault withFit firstOf
     item-over f = (rw (le-ltb 3 which h, ← e, f), rw (le-ltb 3 which h, ← e, f))
 
     pub item-put : b ≡ false → (row′ : List ℕ) → row′ ≡ withItem 16 which id row → Takes 0 row′
-    unfolding itemFault firstOf
+    unfolding itemFault withFit firstOf
     item-put f row′ q = (rw (le-ltb 3 which h, ← e, f), q ∙ rw (le-ltb 3 which h, ← e, f))
 
   pub item-fits : (b : Bool) → b ≡ itemOver 16 which row → b ≡ false → itemOver 16 which row ≡ false
@@ -56,14 +56,12 @@ module _ (row : List ℕ) (which id : ℕ) where
 
   module _ (out : List ℕ) (at offset v : ℕ) (row′ : List ℕ) (t : Takes v row′) where
     abbrev Answers : Replied → List ℕ → Type 0
-    Answers r out′ = Said (itemLine row which offset) out at (r .used) out′ × ((r .ends ≡ eqb (itemFault row which) 10) × (row′ ≡ withFit row which id))
+    Answers r out′ = Said (printed (itemFault row which) offset []) out at (r .used) out′ × ((r .ends ≡ eqb (itemFault row which) 10) × (row′ ≡ withFit row which id))
 
     pub item-quiet : v ≡ 0 → Answers (record { used = at; ends = false }) out
-    unfolding itemLine withFit
     item-quiet z = (record { next = rw (← t .0, z) (omega arith); whole = rw (← t .0, z) }, (rw (← t .0, z), t .1))
 
     pub item-told : (v ≡ 0 → ⊥) → (r : ℕ) (out′ : List ℕ) → Said (refusedLine v offset) out at r out′ → Answers (record { used = r; ends = eqb v 10 }) out′
-    unfolding itemLine withFit
     item-told n r out′ s = (rw (← t .0, ne-eqb v 0 n) s, (rw (← t .0), t .1))
 
 -- ---- the row of the subject

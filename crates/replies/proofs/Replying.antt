@@ -1,19 +1,19 @@
 -- What records 10 to 12 are answered, by each way through the code. Assumes nothing.
 use mathlib.Core.Path.{_≡_, refl, sym, ap, _∙_}
-use mathlib.Core.Bool.{true, false, _||_}
+use mathlib.Core.Bool.{true, false}
 use mathlib.Core.Option.{Option}
 use mathlib.Core.List.{List}
 use Prim.Native.Nat.{ℕ, _+_, _-_, _≤_, _<_}
-use native.Mathlib.Decide.{decLt}
 use native.Mathlib.Omega.{arith}
 use lib.ListN.{length, take, drop, replicate, length-take, length-drop, length-replicate}
 use lib.Seq.{sets, sets-eq, take-at}
-use lib.Dec.{eqb, ltb}
+use lib.Dec.{eqb}
 use borrow.Author.Tests.{lt-ltb, le-ltb, eq-eqb, ne-eqb}
 use Rattle.lent.specs.Pool.{listAt}
 use Rattle.lent.specs.Buffers.{Holds}
-use Rattle.lent.specs.Refusals.{firstOf}
+use Rattle.lent.specs.Refusals.{refusalOf, Check, firstOf}
 use Rattle.lent.proofs.Buffers.{held-take}
+use Rattle.lent.proofs.Refusals.{named, told-first}
 use Rattle.selector.specs.Rows.{rowAt}
 use Rattle.selector.specs.Checks.{rowFits, tagsAscend}
 use Rattle.typed.specs.Typed.{inputsRow}
@@ -44,8 +44,8 @@ use Rattle.records.specs.declared.Record.{Record}
 use Rattle.records.specs.Rows.{emptyRow}
 use Rattle.replies.specs.declared.Replied.{Replied}
 use Rattle.replies.specs.Lines.{refusedLine, stateLine, changedLine, winnerLine, Said}
-use Rattle.replies.specs.Walking.{Walking, walking, subjectOf, itemFault, itemLine, withFit, enterLine, enterAfter, changedRoom, changedReply, winnerReply, walkingLine, itemsAfter, tableAfter, ends}
-use Rattle.replies.specs.Memory.{Ready, Replies}
+use Rattle.replies.specs.Walking.{Walking, walking, subjectOf, printed, itemFault, withFit, enteringVerdict, enterAfter, changedRoom, changingVerdict, winningVerdict, walkingVerdict, acceptedLine, walkingLine, itemsAfter, tableAfter, ends}
+use Rattle.replies.specs.Memory.{Ready, Replies, recordOf}
 use Rattle.replies.proofs.Items.{emptied, subject-proper, proper-fits, proper-rises}
 
 -- a list of a pool is no longer than the pool
@@ -85,30 +85,30 @@ module _ (w h s c m tr items : List ℕ) (g : Ready w (table h s c m tr) items) 
   -- ---- 12
 
   module _ (k property : ℕ) where
-    pub winner-none : n ≤ k → (r : ℕ) (out′ : List ℕ) → Said (refusedLine 4 offset) out at r out′ → Said (winnerReply now offset k property) out at r out′
-    unfolding winnerReply stateVerdict firstOf
+    pub winner-none : n ≤ k → (r : ℕ) (out′ : List ℕ) → Said (refusedLine 4 offset) out at r out′ → Said (walkingLine now offset (recordOf 12 k property)) out at r out′
+    unfolding walkingLine walkingVerdict acceptedLine stateVerdict firstOf
     winner-none i r out′ u = rw (not-broken (g .covered), none-such h k n e i) u
 
     pub winner-some : k < n → (p : ℕ) → p ≡ property → (b : Best) → Stands w (rankingIn h) p (winnerIn w t k p) b → (r : ℕ) (out′ : List ℕ)
         → ((w : List ℕ) (ranking p : ℕ) (o : Option Place) → Stands w ranking p o b → Said (winnerLine w property o) out at r out′)
-        → Said (winnerReply now offset k property) out at r out′
-    unfolding winnerReply stateVerdict firstOf
+        → Said (walkingLine now offset (recordOf 12 k property)) out at r out′
+    unfolding walkingLine walkingVerdict acceptedLine stateVerdict firstOf
     winner-some i p q b u r out′ f = rw (not-broken (g .covered), one-such h k n e i) (f w (rankingIn h) property (winnerIn w t k property) (rw q at u))
 
   -- ---- 11
 
   module _ (old new : ℕ) where
-    pub changed-old : n ≤ old → (r : ℕ) (out′ : List ℕ) → Said (refusedLine 4 offset) out at r out′ → Said (changedReply now offset old new) out at r out′
-    unfolding changedReply changedVerdict firstOf
+    pub changed-old : n ≤ old → (r : ℕ) (out′ : List ℕ) → Said (refusedLine 4 offset) out at r out′ → Said (walkingLine now offset (recordOf 11 old new)) out at r out′
+    unfolding walkingLine walkingVerdict acceptedLine changedVerdict firstOf
     changed-old i r out′ u = rw (not-broken (g .covered), none-such h old n e i) u
 
-    pub changed-new : old < n → n ≤ new → (r : ℕ) (out′ : List ℕ) → Said (refusedLine 4 offset) out at r out′ → Said (changedReply now offset old new) out at r out′
-    unfolding changedReply changedVerdict firstOf
+    pub changed-new : old < n → n ≤ new → (r : ℕ) (out′ : List ℕ) → Said (refusedLine 4 offset) out at r out′ → Said (walkingLine now offset (recordOf 11 old new)) out at r out′
+    unfolding walkingLine walkingVerdict acceptedLine changedVerdict firstOf
     changed-new j i r out′ u = rw (not-broken (g .covered), one-such h old n e j, none-such h new n e i) u
 
     pub changed-both : old < n → new < n → (x : ℕ) (list : List ℕ) → (x ≡ length (changedIn w t old new)) × (x ≤ 4096) × (take x list ≡ changedIn w t old new)
-        → (r : ℕ) (out′ : List ℕ) → Said (changedLine (take x list)) out at r out′ → Said (changedReply now offset old new) out at r out′
-    unfolding changedReply changedVerdict firstOf
+        → (r : ℕ) (out′ : List ℕ) → Said (changedLine (take x list)) out at r out′ → Said (walkingLine now offset (recordOf 11 old new)) out at r out′
+    unfolding walkingLine walkingVerdict acceptedLine changedVerdict firstOf
     changed-both j i x list f r out′ u =
         let few : length (changedIn w t old new) ≤ length changedRoom = rw (length-replicate {A = ℕ} 4096 0) (omega (arith, f .0, f .1)) in
         rw (not-broken (g .covered), one-such h old n e j, one-such h new n e i, le-ltb (length changedRoom) (length (changedIn w t old new)) few, ← f .2) u
@@ -150,11 +150,11 @@ module _ (w h s c m tr items : List ℕ) (g : Ready w (table h s c m tr) items) 
 
     module _ (out : List ℕ) (at offset : ℕ) where
       abbrev Answers : ℕ → List ℕ → Table → List ℕ → Type 0
-      Answers r out′ t′ items′ = Said (enterLine (walking w held items) offset parent) out at r out′ × ((t′ ≡ enterAfter (walking w held items) parent) × (items′ ≡ emptyRow 16))
+      Answers r out′ t′ items′ = Said (walkingLine (walking w held items) offset (recordOf 10 parent 0)) out at r out′ × ((t′ ≡ enterAfter (walking w held items) parent) × (items′ ≡ emptyRow 16))
 
       -- the parent is no state;
       pub enter-none : n ≤ parent → (r : ℕ) (out′ items′ : List ℕ) → Said (refusedLine 4 offset) out at r out′ → items′ ≡ sets items 0 (replicate 38 0) → Answers r out′ held items′
-      unfolding enterLine enterAfter enterVerdict firstOf
+      unfolding walkingLine walkingVerdict acceptedLine enterAfter enterVerdict firstOf
       enter-none i r out′ items′ u z = (
         rw (not-broken (g .covered), none-such h parent n e i) u,
         (rw (not-broken (g .covered), none-such h parent n e i), emptied items items′ (g .row) z),
@@ -163,7 +163,7 @@ module _ (w h s c m tr items : List ℕ) (g : Ready w (table h s c m tr) items) 
       module _ (i : parent < n) (x : Settled) (t′ : Table) (v : Enters w held parent row x t′) where
         -- there is no room;
         pub enter-full : x ≡ NoRoom → (r : ℕ) (out′ items′ : List ℕ) → Said (refusedLine 5 offset) out at r out′ → items′ ≡ sets items 0 (replicate 38 0) → Answers r out′ t′ items′
-        unfolding enterLine enterAfter enterVerdict firstOf
+        unfolding walkingLine walkingVerdict acceptedLine enterAfter enterVerdict firstOf
         enter-full f r out′ items′ u z =
             let lacks = told-none (lacksRoom w held parent row) (childOf w held parent row) (sym f ∙ v .answer) in
             let same : t′ ≡ held = rw lacks at (v .memory) in
@@ -175,7 +175,7 @@ module _ (w h s c m tr items : List ℕ) (g : Ready w (table h s c m tr) items) 
         -- a child is entered
         pub enter-some : (child : ℕ) → x ≡ At child → (l : List ℕ) → l ≡ matchedAt (t′ .states) (t′ .matched) child → (r : ℕ) (out′ items′ : List ℕ)
             → Said (stateLine child l) out at r out′ → items′ ≡ sets items 0 (replicate 38 0) → Answers r out′ t′ items′
-        unfolding enterLine enterAfter
+        unfolding walkingLine walkingVerdict acceptedLine enterAfter
         enter-some child f l k r out′ items′ u z =
             let fine = accepted i x t′ v child f in
             let after = is-entered i x t′ v child f in
@@ -217,39 +217,51 @@ module _ (l list : List ℕ) (n : ℕ) (u : (n ≡ length l) × (n ≤ 4096) × 
 
 -- ---- any
 
+-- no call has refusal 10: its number is not told alone
+not-ten : (l : List Check) → named l ≡ true → false ≡ eqb (firstOf l) 10
+unfolding refusalOf
+not-ten l n = sym (ne-eqb (firstOf l) 10 (λ e. let t = told-first l 10 n (sym e) (λ z. omega arith) in omega (arith, ap length t)))
+
+module _ (s : Walking) (a b : ℕ) where
+  pub enter-not-ten : false ≡ eqb (enteringVerdict s a) 10
+  unfolding enterVerdict
+  enter-not-ten = not-ten _ refl
+
+  pub changed-not-ten : false ≡ eqb (changingVerdict s a b) 10
+  unfolding changedVerdict
+  changed-not-ten = not-ten _ refl
+
+  pub winner-not-ten : false ≡ eqb (winningVerdict s a) 10
+  unfolding stateVerdict
+  winner-not-ten = not-ten _ refl
+
 module _ (s : Walking) (offset : ℕ) (r : Record) (out : List ℕ) (at : ℕ) where
-  pub replies-item : r .kind ≡ 9 → (a : Replied) (out′ items′ : List ℕ) → Said (itemLine (s .items) (r .first) offset) out at (a .used) out′
+  pub replies-item : r .kind ≡ 9 → (a : Replied) (out′ items′ : List ℕ) → Said (printed (itemFault (s .items) (r .first)) offset []) out at (a .used) out′
       → (a .ends ≡ eqb (itemFault (s .items) (r .first)) 10) × (items′ ≡ withFit (s .items) (r .first) (r .second)) → Replies s offset r out at a out′ (s .table) items′
-  unfolding walkingLine tableAfter itemsAfter ends
+  unfolding walkingLine walkingVerdict acceptedLine tableAfter itemsAfter ends
   replies-item k a out′ items′ l e = record { line = rw k l; table = rw k; items = rw k (e .1); ends = rw k (e .0) }
 
-  pub replies-enter : r .kind ≡ 10 → (x : ℕ) (out′ items′ : List ℕ) (t′ : Table) → Said (enterLine s offset (r .first)) out at x out′
+  pub replies-enter : r .kind ≡ 10 → (x : ℕ) (out′ items′ : List ℕ) (t′ : Table) → Said (walkingLine s offset (recordOf 10 (r .first) 0)) out at x out′
       → (t′ ≡ enterAfter s (r .first)) × (items′ ≡ emptyRow 16) → (a : Replied) → a ≡ record { used = x; ends = false } → Replies s offset r out at a out′ t′ items′
-  unfolding walkingLine tableAfter itemsAfter ends
-  replies-enter k x out′ items′ t′ l e a f = record { line = rw (k, f) l; table = rw k (e .0); items = rw k (e .1); ends = rw (k, f) }
+  unfolding walkingLine walkingVerdict acceptedLine tableAfter itemsAfter ends
+  replies-enter k x out′ items′ t′ l e a f = record { line = rw (k, f) l; table = rw k (e .0); items = rw k (e .1); ends = rw (k, f) (enter-not-ten s (r .first) 0) }
 
-  pub replies-changed : r .kind ≡ 11 → (x : ℕ) (out′ : List ℕ) → Said (changedReply s offset (r .first) (r .second)) out at x out′
+  pub replies-changed : r .kind ≡ 11 → (x : ℕ) (out′ : List ℕ) → Said (walkingLine s offset (recordOf 11 (r .first) (r .second))) out at x out′
       → (a : Replied) → a ≡ record { used = x; ends = false } → Replies s offset r out at a out′ (s .table) (s .items)
-  unfolding walkingLine tableAfter itemsAfter ends
-  replies-changed k x out′ l a f = record { line = rw (k, f) l; table = rw k; items = rw k; ends = rw (k, f) }
+  unfolding walkingLine walkingVerdict acceptedLine tableAfter itemsAfter ends
+  replies-changed k x out′ l a f = record { line = rw (k, f) l; table = rw k; items = rw k; ends = rw (k, f) (changed-not-ten s (r .first) (r .second)) }
 
-  pub replies-winner : r .kind ≡ 12 → (x : ℕ) (out′ : List ℕ) → Said (winnerReply s offset (r .first) (r .second)) out at x out′
+  pub replies-winner : r .kind ≡ 12 → (x : ℕ) (out′ : List ℕ) → Said (walkingLine s offset (recordOf 12 (r .first) (r .second))) out at x out′
       → (a : Replied) → a ≡ record { used = x; ends = false } → Replies s offset r out at a out′ (s .table) (s .items)
-  unfolding walkingLine tableAfter itemsAfter ends
-  replies-winner k x out′ l a f = record { line = rw (k, f) l; table = rw k; items = rw k; ends = rw (k, f) }
+  unfolding walkingLine walkingVerdict acceptedLine tableAfter itemsAfter ends
+  replies-winner k x out′ l a f = record { line = rw (k, f) l; table = rw k; items = rw k; ends = rw (k, f) (winner-not-ten s (r .first) 0) }
 
   pub replies-misplaced : (r .kind ≡ 9 → ⊥) → (r .kind ≡ 10 → ⊥) → (r .kind ≡ 11 → ⊥) → (r .kind ≡ 12 → ⊥) → (a : Replied) (out′ : List ℕ)
       → Said (refusedLine 10 offset) out at (a .used) out′ × (a .ends ≡ true) → Replies s offset r out at a out′ (s .table) (s .items)
-  unfolding walkingLine tableAfter itemsAfter ends
+  unfolding walkingLine walkingVerdict acceptedLine tableAfter itemsAfter ends
   replies-misplaced n9 n10 n11 n12 a out′ l = record {
     line = rw (ne-eqb (r .kind) 9 n9, ne-eqb (r .kind) 10 n10, ne-eqb (r .kind) 11 n11, ne-eqb (r .kind) 12 n12) (l .0);
     table = rw (ne-eqb (r .kind) 10 n10);
     items = rw (ne-eqb (r .kind) 9 n9, ne-eqb (r .kind) 10 n10);
-    ends = rw (ne-eqb (r .kind) 9 n9) (l .1 ∙ sym (outside (r .kind) n9 n10 n11 n12));
+    ends = rw (ne-eqb (r .kind) 9 n9, ne-eqb (r .kind) 10 n10, ne-eqb (r .kind) 11 n11, ne-eqb (r .kind) 12 n12) (l .1);
   }
-    where
-      outside : (k : ℕ) → (k ≡ 9 → ⊥) → (k ≡ 10 → ⊥) → (k ≡ 11 → ⊥) → (k ≡ 12 → ⊥) → (ltb k 9 || ltb 12 k) ≡ true
-      outside k a b c d = elim (decLt k 9) [
-        | yes l ↦ rw (lt-ltb k 9 l)
-        | no l ↦ rw (le-ltb k 9 (omega arith), lt-ltb 12 k (omega arith))
-      ]

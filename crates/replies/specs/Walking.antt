@@ -1,5 +1,5 @@
 -- Records 9 to 12: the calls that they make, and what is printed: 01, "House records and the program `walk`". Assumes nothing.
-use mathlib.Core.Bool.{Bool, cond, _||_}
+use mathlib.Core.Bool.{Bool, cond}
 use mathlib.Core.List.{List, [], _∷_}
 use Prim.Native.Nat.{ℕ}
 use lib.ListN.{getD, replicate}
@@ -49,9 +49,6 @@ itemFault row which = firstOf (check 10 (ltb 3 which) ∷ check 2 (itemOver 16 w
 unfoldable pub withFit : List ℕ → ℕ → ℕ → List ℕ
 withFit row which id = cond (eqb (itemFault row which) 0) (withItem 16 which id row) row
 
-unfoldable pub itemLine : List ℕ → ℕ → ℕ → List ℕ
-itemLine row which offset = printed (itemFault row which) offset []
-
 -- ---- "10 enter with the items since the last enter"
 
 abbrev pub enteringVerdict : Walking → ℕ → ℕ
@@ -63,9 +60,7 @@ childIn s parent = childOf (s .sheet) (s .table) parent (rowOf s)
 abbrev pub enteredIn : Walking → ℕ → Table
 enteredIn s parent = entered (s .sheet) (s .table) parent (rowOf s)
 
-unfoldable pub enterLine : Walking → ℕ → ℕ → List ℕ
-enterLine s offset parent = printed (enteringVerdict s parent) offset (stateLine (childIn s parent) (rulesAt (enteredIn s parent) (childIn s parent)))
-
+-- refusals: "None writes."
 unfoldable pub enterAfter : Walking → ℕ → Table
 enterAfter s parent = cond (eqb (enteringVerdict s parent) 0) (enteredIn s parent) (s .table)
 
@@ -75,25 +70,37 @@ enterAfter s parent = cond (eqb (enteringVerdict s parent) 0) (enteredIn s paren
 abbrev pub changedRoom : List ℕ
 changedRoom = replicate 4096 0
 
-unfoldable pub changedReply : Walking → ℕ → ℕ → ℕ → List ℕ
-changedReply s offset old new =
-    printed (changedVerdict (s .sheet) (s .table) old (stampOf s) new (stampOf s) changedRoom) offset (changedLine (changedIn (s .sheet) (s .table) old new))
+abbrev pub changingVerdict : Walking → ℕ → ℕ → ℕ
+changingVerdict s old new = changedVerdict (s .sheet) (s .table) old (stampOf s) new (stampOf s) changedRoom
 
 -- ---- "12 winner"
 
-unfoldable pub winnerReply : Walking → ℕ → ℕ → ℕ → List ℕ
-winnerReply s offset state property =
-    printed (stateVerdict (s .sheet) (s .table) state (stampOf s)) offset (winnerLine (s .sheet) property (winnerIn (s .sheet) (s .table) state property))
+abbrev pub winningVerdict : Walking → ℕ → ℕ
+winningVerdict s state = stateVerdict (s .sheet) (s .table) state (stampOf s)
 
--- ---- one record; "1 again" and "2 to 8 after 8" are misplaced
+-- ---- one record
 
+-- the refusal of the call that it makes, or 0; "1 again" and "2 to 8 after 8" are misplaced
+unfoldable pub walkingVerdict : Walking → Record → ℕ
+walkingVerdict s r =
+    cond (eqb (r .kind) 9) (itemFault (s .items) (r .first))
+    (cond (eqb (r .kind) 10) (enteringVerdict s (r .first))
+    (cond (eqb (r .kind) 11) (changingVerdict s (r .first) (r .second))
+    (cond (eqb (r .kind) 12) (winningVerdict s (r .first))
+    10)))
+
+-- what it prints if it is accepted, an item nothing: "child state, list length and rules; list length and properties; property and winner"
+unfoldable pub acceptedLine : Walking → Record → List ℕ
+acceptedLine s r =
+    cond (eqb (r .kind) 9) []
+    (cond (eqb (r .kind) 10) (stateLine (childIn s (r .first)) (rulesAt (enteredIn s (r .first)) (childIn s (r .first))))
+    (cond (eqb (r .kind) 11) (changedLine (changedIn (s .sheet) (s .table) (r .first) (r .second)))
+    (cond (eqb (r .kind) 12) (winnerLine (s .sheet) (r .second) (winnerIn (s .sheet) (s .table) (r .first) (r .second)))
+    [])))
+
+-- "A refusal prints `refused N at OFFSET`, the offset of the record's first byte"
 unfoldable pub walkingLine : Walking → ℕ → Record → List ℕ
-walkingLine s offset r =
-    cond (eqb (r .kind) 9) (itemLine (s .items) (r .first) offset)
-    (cond (eqb (r .kind) 10) (enterLine s offset (r .first))
-    (cond (eqb (r .kind) 11) (changedReply s offset (r .first) (r .second))
-    (cond (eqb (r .kind) 12) (winnerReply s offset (r .first) (r .second))
-    (refusedLine 10 offset))))
+walkingLine s offset r = printed (walkingVerdict s r) offset (acceptedLine s r)
 
 -- "as are the items of a refused enter"
 unfoldable pub itemsAfter : Walking → Record → List ℕ
@@ -105,6 +112,6 @@ tableAfter s r = cond (eqb (r .kind) 10) (enterAfter s (r .first)) (s .table)
 abbrev pub walkingAfter : Walking → Record → Walking
 walkingAfter s r = walking (s .sheet) (tableAfter s r) (itemsAfter s r)
 
--- "always for refusal 10, it ends the program": a 9's code out of range, or a kind that is misplaced; no call has that refusal
+-- "up to kind 8, and always for refusal 10, it ends the program"
 unfoldable pub ends : Walking → Record → Bool
-ends s r = cond (eqb (r .kind) 9) (eqb (itemFault (s .items) (r .first)) 10) (ltb (r .kind) 9 || ltb 12 (r .kind))
+ends s r = eqb (walkingVerdict s r) 10

@@ -9,6 +9,7 @@ use lent::words::word;
 use matcher::held::enter_subject;
 use matcher::held::matching_rules;
 use records::Record;
+use records::held::half;
 use records::held::item_over;
 use records::held::put_item;
 use settle::Settled;
@@ -16,7 +17,8 @@ use table::layout;
 use typed::SelectorInputs;
 use typed::SelectorInputsOwned;
 ghost use mathlib.Core.Path.{_≡_};
-ghost use mathlib.Core.Bool.{true, false, cond};
+ghost use mathlib.Core.Bool.{true, false};
+ghost use mathlib.Core.List.{[]};
 ghost use Prim.Native.Nat.{_≤_, _<_};
 ghost use lib.ListN.{length, take};
 ghost use lib.Dec.{eqb};
@@ -25,15 +27,15 @@ ghost use Rattle.table.specs.Tables.{table, statesIn};
 ghost use Rattle.cascade.specs.Calls.{changedIn};
 ghost use Rattle.covered.specs.Covered.{Covered};
 ghost use Rattle.records.specs.Records.{Narrow};
-ghost use Rattle.records.specs.Rows.{emptyRow, withItem};
+ghost use Rattle.records.specs.Rows.{emptyRow};
 ghost use Rattle.replies.specs.Lines.{refusedLine, Said};
-ghost use Rattle.replies.specs.Walking.{walking, subjectOf, itemFault, itemLine, withFit, enterLine, enterAfter, changedReply, winnerReply};
-ghost use Rattle.replies.specs.Memory.{Ready, Room, Replies};
+ghost use Rattle.replies.specs.Walking.{walking, subjectOf, printed, itemFault, withFit, enterAfter, walkingLine};
+ghost use Rattle.replies.specs.Memory.{Ready, Room, Replies, recordOf};
 
 // ---- 9
 
 fn take_item(items: &mut [u32], which: u32, id: u32) -> u32
-    ensures { λ r. ⌜ (r ≡ itemFault (now (items .entry)) which) × (now (items .exit) ≡ cond (eqb (itemFault (now (items .entry)) which) 0) (withItem 16 which id (now (items .entry))) (now (items .entry))) ⌝ }
+    ensures { λ r. ⌜ (r ≡ itemFault (now (items .entry)) which) × (now (items .exit) ≡ withFit (now (items .entry)) which id) ⌝ }
 {
     if 3 < which {
         return 10;
@@ -77,7 +79,7 @@ fn take_enter(
 ) -> usize
     requires { ⌜ Ready (now sheet) (table (now head) (now states) (now cursors) (now matched) (now transitions)) (now items) ⌝ }
     requires { ⌜ Room at (now out) ⌝ }
-    ensures { λ r. ⌜ Said (enterLine (walking (now (sheet .entry)) (table (now (head .entry)) (now (states .entry)) (now (cursors .entry)) (now (matched .entry)) (now (transitions .entry))) (now (items .entry))) offset parent) (now (out .entry)) at r (now (out .exit)) ⌝ }
+    ensures { λ r. ⌜ Said (walkingLine (walking (now (sheet .entry)) (table (now (head .entry)) (now (states .entry)) (now (cursors .entry)) (now (matched .entry)) (now (transitions .entry))) (now (items .entry))) offset (recordOf 10 parent 0)) (now (out .entry)) at r (now (out .exit)) ⌝ }
     ensures { λ _. ⌜ ((table (now (head .exit)) (now (states .exit)) (now (cursors .exit)) (now (matched .exit)) (now (transitions .exit))) ≡ enterAfter (walking (now (sheet .entry)) (table (now (head .entry)) (now (states .entry)) (now (cursors .entry)) (now (matched .entry)) (now (transitions .entry))) (now (items .entry))) parent) × (now (items .exit) ≡ emptyRow 16) ⌝ }
 {
     let row = owned_row(items);
@@ -151,7 +153,7 @@ fn take_changed(
 ) -> usize
     requires { ⌜ Ready (now sheet) (table (now head) (now states) (now cursors) (now matched) (now transitions)) (now items) ⌝ }
     requires { ⌜ Room at (now out) ⌝ }
-    ensures { λ r. ⌜ Said (changedReply (walking (now (sheet .entry)) (table (now (head .entry)) (now (states .entry)) (now (cursors .entry)) (now (matched .entry)) (now (transitions .entry))) (now (items .entry))) offset old new) (now (out .entry)) at r (now (out .exit)) ⌝ }
+    ensures { λ r. ⌜ Said (walkingLine (walking (now (sheet .entry)) (table (now (head .entry)) (now (states .entry)) (now (cursors .entry)) (now (matched .entry)) (now (transitions .entry))) (now (items .entry))) offset (recordOf 11 old new)) (now (out .entry)) at r (now (out .exit)) ⌝ }
 {
     let count = word(head, layout::STATES);
     if count <= old {
@@ -177,13 +179,6 @@ fn take_changed(
 
 // ---- 12
 
-fn half(x: u32) -> u16
-    requires { ⌜ x < 65536 ⌝ }
-    ensures { λ r. ⌜ r ≡ x ⌝ }
-{
-    x as u16
-}
-
 fn take_winner(
     sheet: &[u32],
     head: &[u32],
@@ -201,7 +196,7 @@ fn take_winner(
     requires { ⌜ Ready (now sheet) (table (now head) (now states) (now cursors) (now matched) (now transitions)) (now items) ⌝ }
     requires { ⌜ Room at (now out) ⌝ }
     requires { ⌜ property < 65536 ⌝ }
-    ensures { λ r. ⌜ Said (winnerReply (walking (now (sheet .entry)) (table (now (head .entry)) (now (states .entry)) (now (cursors .entry)) (now (matched .entry)) (now (transitions .entry))) (now (items .entry))) offset state property) (now (out .entry)) at r (now (out .exit)) ⌝ }
+    ensures { λ r. ⌜ Said (walkingLine (walking (now (sheet .entry)) (table (now (head .entry)) (now (states .entry)) (now (cursors .entry)) (now (matched .entry)) (now (transitions .entry))) (now (items .entry))) offset (recordOf 12 state property)) (now (out .entry)) at r (now (out .exit)) ⌝ }
 {
     if word(head, layout::STATES) <= state {
         return say::refused(out, at, 4, offset);
@@ -231,7 +226,7 @@ fn reply_item(
     offset: u64,
 ) -> Replied
     requires { ⌜ Room at (now out) ⌝ }
-    ensures { λ r. ⌜ Said (itemLine (now (items .entry)) which offset) (now (out .entry)) at (r .used) (now (out .exit)) ⌝ }
+    ensures { λ r. ⌜ Said (printed (itemFault (now (items .entry)) which) offset []) (now (out .entry)) at (r .used) (now (out .exit)) ⌝ }
     ensures { λ r. ⌜ (r .ends ≡ eqb (itemFault (now (items .entry)) which) 10) × (now (items .exit) ≡ withFit (now (items .entry)) which id) ⌝ }
 {
     let v = take_item(items, which, id);
