@@ -12,11 +12,11 @@ use Rattle.lent.proofs.Refusals.{first-clear}
 use Rattle.sheet.specs.Sheets.{styleAt, ruleAt}
 use Rattle.winners.specs.Winners.{Place, style, rule}
 use Rattle.table.specs.Tables.{Table}
-use Rattle.table.specs.Calls.{broken, notAState, stateVerdict}
+use Rattle.table.specs.Calls.{broken, notAState}
 use Rattle.cascade.specs.Calls.{rulesAt, winnerIn, changedIn, changedVerdict}
 use Rattle.records.specs.declared.Record.{Record}
 use Rattle.replies.specs.Lines.{decimal, spaced, listed, REFUSED, AT, STATE, MATCHED, CHANGED, WINNER, DIRECT, RULE, SOURCE, END, refusedLine, stateLine, changedLine, sourceText, winnerLine}
-use Rattle.replies.specs.Walking.{Walking, walking, printed, stampOf, itemFault, itemLine, enteringVerdict, childIn, enteredIn, enterLine, changedRoom, changedReply, winnerReply, walkingLine}
+use Rattle.replies.specs.Walking.{Walking, walking, printed, stampOf, itemFault, enteringVerdict, childIn, enteredIn, changedRoom, changingVerdict, winningVerdict, walkingVerdict, acceptedLine, walkingLine}
 use Rattle.replies.specs.Memory.{Ready}
 use Rattle.replies.proofs.Decimal.{decimal-short}
 use Rattle.replies.proofs.Replying.{list-few}
@@ -100,41 +100,37 @@ module _ {w : List ℕ} {t : Table} {items : List ℕ} (y : Ready w t items) (of
   abbrev here : Walking
   here = walking w t items
 
-  item-short : (which : ℕ) → length (itemLine items which offset) ≤ 87000
-  unfolding itemLine
-  item-short which = printed-short (itemFault items which) offset [] (λ e. omega arith)
-
-  enter-short : (parent : ℕ) → length (enterLine here offset parent) ≤ 87000
-  unfolding enterLine
-  enter-short parent = printed-short (enteringVerdict here parent) offset (stateLine (childIn here parent) (rulesAt (enteredIn here parent) (childIn here parent))) (λ e.
+  enter-short : (parent : ℕ) → enteringVerdict here parent ≡ 0 → length (stateLine (childIn here parent) (rulesAt (enteredIn here parent) (childIn here parent))) ≤ 87000
+  enter-short parent e =
       let long = entered-tabled w t items (ready-tabled y) parent e .matched in
       let few = list-few (enteredIn here parent .states) (enteredIn here parent .matched) (childIn here parent) in
-      omega (arith, state-short (childIn here parent) (rulesAt (enteredIn here parent) (childIn here parent))))
+      omega (arith, state-short (childIn here parent) (rulesAt (enteredIn here parent) (childIn here parent)))
 
-  reply-short : (old new : ℕ) → length (changedReply here offset old new) ≤ 87000
-  unfolding changedReply
-  reply-short old new = printed-short (changedVerdict w t old (stampOf here) new (stampOf here) changedRoom) offset (changedLine (changedIn w t old new)) (λ e.
+  changes-short : (old new : ℕ) → changingVerdict here old new ≡ 0 → length (changedLine (changedIn w t old new)) ≤ 87000
+  changes-short old new e =
       let few = changed-few w t old (stampOf here) new (stampOf here) changedRoom e in
       let long = length-replicate {A = ℕ} 4096 0 in
-      omega (arith, changed-short (changedIn w t old new)))
+      omega (arith, changed-short (changedIn w t old new))
 
-  won-short : (state property : ℕ) → length (winnerReply here offset state property) ≤ 87000
-  unfolding winnerReply
-  won-short state property = printed-short (stateVerdict w t state (stampOf here)) offset (winnerLine w property (winnerIn w t state property)) (λ e.
-      omega (arith, winner-short w property (winnerIn w t state property)))
+  accepted-short : (r : Record) → walkingVerdict here r ≡ 0 → length (acceptedLine here r) ≤ 87000
+  unfolding walkingVerdict acceptedLine
+  accepted-short r = by (eqb (r .kind) 9) (eqb (r .kind) 10) (eqb (r .kind) 11) (eqb (r .kind) 12)
+    where
+      entering : List ℕ
+      entering = stateLine (childIn here (r .first)) (rulesAt (enteredIn here (r .first)) (childIn here (r .first)))
+
+      won : List ℕ
+      won = winnerLine w (r .second) (winnerIn w t (r .first) (r .second))
+
+      by : (a b c d : Bool)
+          → cond a (itemFault items (r .first)) (cond b (enteringVerdict here (r .first)) (cond c (changingVerdict here (r .first) (r .second)) (cond d (winningVerdict here (r .first)) 10))) ≡ 0
+          → length (cond a [] (cond b entering (cond c (changedLine (changedIn w t (r .first) (r .second))) (cond d won [])))) ≤ 87000
+      by true b c d e = omega arith
+      by false true c d e = enter-short (r .first) e
+      by false false true d e = changes-short (r .first) (r .second) e
+      by false false false true e = omega (arith, winner-short w (r .second) (winnerIn w t (r .first) (r .second)))
+      by false false false false e = omega arith
 
   pub line-short : (r : Record) → length (walkingLine here offset r) ≤ 87000
   unfolding walkingLine
-  line-short r = by (eqb (r .kind) 9) (eqb (r .kind) 10) (eqb (r .kind) 11) (eqb (r .kind) 12)
-    where
-      by : (a b c d : Bool)
-          → length
-          (cond a (itemLine items (r .first) offset)
-          (cond b (enterLine here offset (r .first))
-          (cond c (changedReply here offset (r .first) (r .second)) (cond d (winnerReply here offset (r .first) (r .second)) (refusedLine 10 offset)))))
-          ≤ 87000
-      by true b c d = item-short (r .first)
-      by false true c d = enter-short (r .first)
-      by false false true d = reply-short (r .first) (r .second)
-      by false false false true = won-short (r .first) (r .second)
-      by false false false false = omega (arith, refused-short 10 offset)
+  line-short r = printed-short (walkingVerdict here r) offset (acceptedLine here r) (accepted-short r)
