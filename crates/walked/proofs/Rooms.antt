@@ -8,11 +8,11 @@ use lib.Dec.{eqb}
 use borrow.Author.Tests.{eqb-true}
 use Rattle.table.specs.Tables.{Table, rankingIn, stampIn}
 use Rattle.table.specs.Entering.{built}
-use Rattle.table.specs.Calls.{buildVerdict, stateVerdict}
+use Rattle.table.specs.Calls.{buildVerdict}
 use Rattle.table.proofs.Shaped.{unshaped}
 use Rattle.winners.specs.Winners.{winnerOf}
 use Rattle.changes.specs.Changes.{changedOf}
-use Rattle.cascade.specs.Calls.{rulesAt, changedIn, pairVerdict}
+use Rattle.cascade.specs.Calls.{rulesAt, winnerIn, changedIn, pairVerdict}
 use Rattle.cascade.proofs.Verdicts.{state-passed, pair-passed}
 use Rattle.covered.proofs.Sound.{sound-shaped}
 use Rattle.covered.proofs.Reached.{builds-sound}
@@ -22,7 +22,7 @@ use Rattle.records.specs.Rows.{emptyRow}
 use Rattle.gather.specs.Opened.{Open, nothing}
 use Rattle.gather.specs.Making.{makingVerdict, sheetAfter, openAfter}
 use Rattle.replies.specs.Lines.{refusedLine, stateLine, changedLine, winnerLine}
-use Rattle.replies.specs.Walking.{Walking, walking, subjectOf, printed, enteringVerdict, enterLine, enterAfter, enteredIn, changedReply, winnerReply, walkingLine, itemsAfter, tableAfter, walkingAfter, ends}
+use Rattle.replies.specs.Walking.{Walking, walking, subjectOf, printed, itemFault, enteringVerdict, childIn, enteredIn, enterAfter, changingVerdict, winningVerdict, walkingVerdict, acceptedLine, walkingLine, itemsAfter, tableAfter, walkingAfter, ends}
 use Rattle.house.specs.House.{Phase, first, making, walks, emptySheet, lentTable, Outcome, stops, leads, unless, firstVerdict, built-of, makingOutcome, outcome, ending, after, walkIn, walkOf}
 use Rattle.walked.proofs.Never.{changed-is-pair}
 use Rattle.walked.proofs.Alike.{Alike, built-alike, same-rules, same-state, same-pair, same-enter, same-child, entered-alike, same-listed}
@@ -44,13 +44,11 @@ module _ {w : List ℕ} {t t′ : Table} (a : Alike w t t′) (items : List ℕ)
   abbrev other : Walking
   other = walking w t′ items
 
-  same-enter-line : (offset parent : ℕ) → enterLine one offset parent ≡ enterLine other offset parent
-  unfolding enterLine
-  same-enter-line offset parent =
-      let e = same-enter w a parent (subjectOf items) in
-      printed-same (enteringVerdict one parent) (enteringVerdict other parent) offset _ _ e (λ z.
-      let v′ : enteringVerdict other parent ≡ 0 = sym e ∙ z in
-      ap₂ stateLine (same-child w a parent (stampIn (t .head)) (stampIn (t′ .head)) (subjectOf items) z v′) (same-listed w a parent (stampIn (t .head)) (stampIn (t′ .head)) (subjectOf items) z v′))
+  same-entered : (parent : ℕ) → enteringVerdict one parent ≡ 0
+      → stateLine (childIn one parent) (rulesAt (enteredIn one parent) (childIn one parent)) ≡ stateLine (childIn other parent) (rulesAt (enteredIn other parent) (childIn other parent))
+  same-entered parent z =
+      let v′ : enteringVerdict other parent ≡ 0 = sym (same-enter w a parent (subjectOf items)) ∙ z in
+      ap₂ stateLine (same-child w a parent (stampIn (t .head)) (stampIn (t′ .head)) (subjectOf items) z v′) (same-listed w a parent (stampIn (t .head)) (stampIn (t′ .head)) (subjectOf items) z v′)
 
   same-changed : (old new : ℕ) → pairVerdict w t old (stampIn (t .head)) new (stampIn (t .head)) ≡ 0 → changedIn w t old new ≡ changedIn w t′ old new
   same-changed old new z =
@@ -58,24 +56,48 @@ module _ {w : List ℕ} {t t′ : Table} (a : Alike w t t′) (items : List ℕ)
       ap₂ (λ (x y : List ℕ). changedOf w (rankingIn (t .head)) x y) (same-rules w a old (p .1 .0)) (same-rules w a new (p .1 .1))
       ∙ ap (λ (r : ℕ). changedOf w r (rulesAt t′ old) (rulesAt t′ new)) (a .ranking)
 
-  same-changed-line : (offset old new : ℕ) → changedReply one offset old new ≡ changedReply other offset old new
-  unfolding changedReply
-  same-changed-line offset old new =
-      let i = changed-is-pair w t (a .sound .sheet, unshaped (sound-shaped w (a .sound))) old new (stampIn (t .head)) (stampIn (t .head)) in
-      let i′ = changed-is-pair w t′ (a .sound′ .sheet, unshaped (sound-shaped w (a .sound′))) old new (stampIn (t′ .head)) (stampIn (t′ .head)) in
-      printed-same _ _ offset _ _ (i ∙ same-pair w a old new ∙ sym i′) (λ z. ap changedLine (same-changed old new (sym i ∙ z)))
+  changing-is : (old new : ℕ) → changingVerdict one old new ≡ pairVerdict w t old (stampIn (t .head)) new (stampIn (t .head))
+  changing-is old new = changed-is-pair w t (a .sound .sheet, unshaped (sound-shaped w (a .sound))) old new (stampIn (t .head)) (stampIn (t .head))
 
-  same-winner-line : (offset state property : ℕ) → winnerReply one offset state property ≡ winnerReply other offset state property
-  unfolding winnerReply
-  same-winner-line offset state property =
-      printed-same (stateVerdict w t state (stampIn (t .head))) (stateVerdict w t′ state (stampIn (t′ .head))) offset _ _ (same-state w a state) (λ z.
+  same-changing : (old new : ℕ) → changingVerdict one old new ≡ changingVerdict other old new
+  same-changing old new =
+      let i′ = changed-is-pair w t′ (a .sound′ .sheet, unshaped (sound-shaped w (a .sound′))) old new (stampIn (t′ .head)) (stampIn (t′ .head)) in
+      changing-is old new ∙ same-pair w a old new ∙ sym i′
+
+  same-winner : (state property : ℕ) → winningVerdict one state ≡ 0 → winnerIn w t state property ≡ winnerIn w t′ state property
+  same-winner state property z =
       let p = state-passed w (t .head) (t .states) (t .cursors) (t .matched) (t .transitions) state (stampIn (t .head)) _ refl z in
-      ap (winnerLine w property)
-      (ap₂ (λ (r : ℕ) (rules : List ℕ). winnerOf w r rules property) (a .ranking) (same-rules w a state (p .1))))
+      ap₂ (λ (r : ℕ) (rules : List ℕ). winnerOf w r rules property) (a .ranking) (same-rules w a state (p .1))
+
+  same-verdict : (r : Record) → walkingVerdict one r ≡ walkingVerdict other r
+  unfolding walkingVerdict
+  same-verdict r = rw (same-enter w a (r .first) (subjectOf items), same-changing (r .first) (r .second), same-state w a (r .first))
+
+  same-accepted : (r : Record) → walkingVerdict one r ≡ 0 → acceptedLine one r ≡ acceptedLine other r
+  unfolding walkingVerdict acceptedLine
+  same-accepted r = by (eqb (r .kind) 9) (eqb (r .kind) 10) (eqb (r .kind) 11) (eqb (r .kind) 12)
+    where
+      enters : Walking → List ℕ
+      enters s = stateLine (childIn s (r .first)) (rulesAt (enteredIn s (r .first)) (childIn s (r .first)))
+
+      changes : Table → List ℕ
+      changes x = changedLine (changedIn w x (r .first) (r .second))
+
+      wins : Table → List ℕ
+      wins x = winnerLine w (r .second) (winnerIn w x (r .first) (r .second))
+
+      by : (b c d e : Bool)
+          → cond b (itemFault items (r .first)) (cond c (enteringVerdict one (r .first)) (cond d (changingVerdict one (r .first) (r .second)) (cond e (winningVerdict one (r .first)) 10))) ≡ 0
+          → cond b [] (cond c (enters one) (cond d (changes t) (cond e (wins t) []))) ≡ cond b [] (cond c (enters other) (cond d (changes t′) (cond e (wins t′) [])))
+      by true c d e z = refl
+      by false true d e z = same-entered (r .first) z
+      by false false true e z = ap changedLine (same-changed (r .first) (r .second) (sym (changing-is (r .first) (r .second)) ∙ z))
+      by false false false true z = ap (winnerLine w (r .second)) (same-winner (r .first) (r .second) z)
+      by false false false false z = refl
 
   same-line : (offset : ℕ) (r : Record) → walkingLine one offset r ≡ walkingLine other offset r
   unfolding walkingLine
-  same-line offset r = rw (same-enter-line offset (r .first), same-changed-line offset (r .first) (r .second), same-winner-line offset (r .first) (r .second))
+  same-line offset r = printed-same (walkingVerdict one r) (walkingVerdict other r) offset (acceptedLine one r) (acceptedLine other r) (same-verdict r) (same-accepted r)
 
   same-items : (r : Record) → itemsAfter one r ≡ itemsAfter other r
   unfolding itemsAfter
@@ -83,7 +105,7 @@ module _ {w : List ℕ} {t t′ : Table} (a : Alike w t t′) (items : List ℕ)
 
   same-ends : (r : Record) → ends one r ≡ ends other r
   unfolding ends
-  same-ends r = refl
+  same-ends r = ap (λ (v : ℕ). eqb v 10) (same-verdict r)
 
   enter-alike : (parent : ℕ) → Alike w (enterAfter one parent) (enterAfter other parent)
   unfolding enterAfter
