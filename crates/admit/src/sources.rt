@@ -1,8 +1,8 @@
 // The refusals of a pushed style and of a pushed group, in 01's order; each answer is the refusal's number, 0 for none. Nothing is written.
 use given::held::all_entries;
 use given::held::held_ids;
-use lent::lists::rest;
-use lent::lists::rest_halves;
+use lent::held::rest;
+use lent::held::rest_halves;
 use lent::words::wide;
 use lent::words::word;
 use selector::held::combinators_verdict;

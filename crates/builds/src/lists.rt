@@ -1,5 +1,5 @@
 // The lists of an item's words. Their lengths stand side by side, and the lists follow in the same order.
-use lent::lists::part;
+use lent::held::part;
 use lent::words::wide;
 use lent::words::word;
 ghost use Prim.Native.Nat.{_≤_};

@@ -6,7 +6,7 @@ use crate::lists::list;
 use crate::tell::entry_of;
 use items::MOST;
 use items::say;
-use lent::lists::part;
+use lent::held::part;
 use lent::words::put;
 use lent::words::wide;
 use lent::words::widen_into;

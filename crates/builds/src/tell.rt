@@ -1,7 +1,7 @@
 // What is read out of a sheet.
 use crate::lists::end;
 use items::say;
-use lent::lists::part;
+use lent::held::part;
 use lent::words::word;
 use lines::text;
 use selector::Specificity;

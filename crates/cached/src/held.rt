@@ -1,6 +1,6 @@
 // Nothing is required of the table: along whatever chain its words say.
+use lent::held::part;
 use lent::lists::cell;
-use lent::lists::part;
 use lent::sets::compare;
 use lent::words::wide;
 use lent::words::word;

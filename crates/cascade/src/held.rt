@@ -1,5 +1,5 @@
 // For callers that hold the sheet and the table to their shapes already.
-use lent::lists::list_of;
+use lent::held::list_of;
 use lent::words::word;
 use table::layout;
 use winners::Best;

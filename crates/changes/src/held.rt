@@ -2,8 +2,8 @@
 use changeset::held::mark;
 use lent::held::contains;
 use lent::held::insert;
-use lent::lists::list_of;
-use lent::lists::rest;
+use lent::held::list_of;
+use lent::held::rest;
 use lent::words::wide;
 use lent::words::word;
 use sheet::layout;

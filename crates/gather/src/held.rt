@@ -5,7 +5,7 @@ use builder::held::push_rules;
 use builder::held::push_style;
 use given::held::all_entries;
 use given::held::held_ids;
-use lent::lists::part;
+use lent::held::part;
 use lent::words::copy_into;
 use lent::words::put;
 use lent::words::wide;

@@ -7,7 +7,7 @@ use given::held::put_entries;
 use given::held::put_rule_row;
 use given::held::put_step;
 use given::held::put_style_row;
-use lent::lists::rest;
+use lent::held::rest;
 use lent::words::wide;
 use lent::words::word;
 use sheet::layout;

@@ -2,8 +2,8 @@
 use crate::build::put_root;
 use advance::held::advance;
 use cached::held::cached;
+use lent::held::list_of;
 use lent::lists::cell;
-use lent::lists::list_of;
 use settle::Settled;
 use settle::held::keep;
 use settle::held::settle;

@@ -35,7 +35,7 @@ pub(crate) fn ids<'a>(words: &'a [u32], at: usize, count: usize) -> &'a [u32]
     ensures { λ r. ⌜ now r ≡ wordsFrom (now (words .entry)) at (getD (now (words .entry)) count 0) ⌝ }
 {
     let n = wide(word(words, count));
-    lent::lists::part(words, at, at + n)
+    lent::held::part(words, at, at + n)
 }
 
 // Whether each id, in any order and repeated, is in the ascending set.

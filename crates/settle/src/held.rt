@@ -2,9 +2,9 @@
 use crate::Settled;
 use cached::held::leads;
 use cached::held::same_lists;
+use lent::held::list_of;
 use lent::lists::address;
 use lent::lists::cell;
-use lent::lists::list_of;
 use lent::words::copy_into;
 use lent::words::put;
 use lent::words::wide;

@@ -1,10 +1,10 @@
 // The test of a sheet's shape, clause by clause.
 use crate::layout;
+use lent::held::list_of;
+use lent::held::part;
+use lent::held::rest;
 use lent::lists::Column;
 use lent::lists::cell;
-use lent::lists::list_of;
-use lent::lists::part;
-use lent::lists::rest;
 use lent::lists::start_of;
 use lent::sets::at_most;
 use lent::sets::is_ascending;

@@ -1,8 +1,8 @@
 // The test of a table's shape, clause by clause.
 use crate::held::roots;
 use crate::layout;
+use lent::held::list_of;
 use lent::lists::cell;
-use lent::lists::list_of;
 use lent::lists::start_of;
 use lent::sets::compare;
 use lent::sets::is_ascending;
@@ -269,7 +269,7 @@ fn classes_ascend(transitions: &[u32], k: u32) -> bool
     ensures { λ r. ⌜ r ≡ classesAscend (now (transitions .entry)) k ⌝ }
 {
     let at = subject_place(k);
-    is_ascending(lent::lists::part(
+    is_ascending(lent::held::part(
         transitions,
         at + 6,
         at + 6 + wide(word(transitions, at + 4)),
@@ -280,7 +280,7 @@ fn pseudos_ascend(transitions: &[u32], k: u32) -> bool
     ensures { λ r. ⌜ r ≡ pseudosAscend (now (transitions .entry)) k ⌝ }
 {
     let at = subject_place(k);
-    is_ascending(lent::lists::part(
+    is_ascending(lent::held::part(
         transitions,
         at + 22,
         at + 22 + wide(word(transitions, at + 5)),

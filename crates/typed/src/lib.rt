@@ -104,7 +104,7 @@ fn subject_words(words: &[u32], at: usize) -> [u32; 38]
     ensures { λ r. ⌜ r ≡ spread (λ (k : ℕ). getD (drop at (now (words .entry))) k 0) 0 38 ⌝ }
 {
     let mut row = [0u32; 38];
-    copy_into(&mut row, 0, lent::lists::part(words, at, words.len()));
+    copy_into(&mut row, 0, lent::held::part(words, at, words.len()));
     row
 }
 
@@ -112,7 +112,7 @@ fn step_words(words: &[u32], at: usize) -> [u32; 22]
     ensures { λ r. ⌜ r ≡ spread (λ (k : ℕ). getD (drop at (now (words .entry))) k 0) 0 22 ⌝ }
 {
     let mut row = [0u32; 22];
-    copy_into(&mut row, 0, lent::lists::part(words, at, words.len()));
+    copy_into(&mut row, 0, lent::held::part(words, at, words.len()));
     row
 }
 

@@ -12,7 +12,7 @@ use cascade::resources::resource_dependent_properties;
 use channels::ChannelSet;
 use channels::Lowest;
 use items::say;
-use lent::lists::rest;
+use lent::held::rest;
 use lent::words::word;
 use lines::text;
 use matcher::MatchState;

@@ -1,5 +1,5 @@
 // What is stored. No line.
-use lent::lists::rest;
+use lent::held::rest;
 use lent::words::copy_into;
 use lent::words::wide;
 use lent::words::word;

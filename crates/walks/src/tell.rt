@@ -2,7 +2,7 @@
 use cursor::NextRule;
 use cursor::step;
 use items::say;
-use lent::lists::part;
+use lent::held::part;
 use lent::words::wide;
 use lent::words::word;
 use lines::text;

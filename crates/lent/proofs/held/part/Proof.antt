@@ -1,7 +1,7 @@
 use borrow.Author.Needs.{needs}
 use Rattle.lent.proofs.Pool.{part-none, part-past, part-rest}
-use Rattle.lent.proofs.lists.part.Statement.{statement}
-use Rattle.lent.proofs.lists.part.Tie as tie
+use Rattle.lent.proofs.held.part.Statement.{statement}
+use Rattle.lent.proofs.held.part.Tie as tie
 
 sub-result : tie.Need-sub-result
 sub-result c = search needs

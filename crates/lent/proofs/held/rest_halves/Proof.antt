@@ -1,7 +1,7 @@
 use borrow.Author.Needs.{needs}
 use Rattle.lent.proofs.Pool.{rest-none, rest-all}
-use Rattle.lent.proofs.lists.rest_halves.Statement.{statement}
-use Rattle.lent.proofs.lists.rest_halves.Tie as tie
+use Rattle.lent.proofs.held.rest_halves.Statement.{statement}
+use Rattle.lent.proofs.held.rest_halves.Tie as tie
 
 sub-result : tie.Need-sub-result
 sub-result c = search needs

@@ -1,7 +1,7 @@
 use borrow.Author.Needs.{needs}
 use Rattle.lent.proofs.Pool.{list-is}
-use Rattle.lent.proofs.lists.list_of.Statement.{statement}
-use Rattle.lent.proofs.lists.list_of.Tie as tie
+use Rattle.lent.proofs.held.list_of.Statement.{statement}
+use Rattle.lent.proofs.held.list_of.Tie as tie
 
 start-of-requires : tie.Need-start-of-requires
 start-of-requires c κs = search needs

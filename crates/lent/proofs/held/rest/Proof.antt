@@ -1,7 +1,7 @@
 use borrow.Author.Needs.{needs}
 use Rattle.lent.proofs.Pool.{rest-none, rest-all}
-use Rattle.lent.proofs.lists.rest.Statement.{statement}
-use Rattle.lent.proofs.lists.rest.Tie as tie
+use Rattle.lent.proofs.held.rest.Statement.{statement}
+use Rattle.lent.proofs.held.rest.Tie as tie
 
 sub-result : tie.Need-sub-result
 sub-result c = search needs
