@@ -36,7 +36,8 @@ use Rattle.matcher.specs.Answers.{Build, Enter, Part, Rules}
 use Rattle.matcher.specs.declared.Building.{Building}
 use Rattle.matcher.specs.declared.Entering.{Entering}
 use Rattle.matcher.proofs.Distinct.{build-determined, enter-determined, part-determined, rules-determined}
-use Rattle.cursor.specs.Yielding.{nextAt, indexAfter}
+use Rattle.cursor.specs.Yielding.{nextTold, nextOf, indexAfter}
+use Rattle.cursor.proofs.Distinct as Cursor
 use Rattle.cursor.specs.declared.RuleCursor.{RuleCursor}
 use Rattle.cursor.specs.declared.NextRule.{NextRule}
 use Rattle.cursor.specs.declared.Yielded.{Yielded}
@@ -59,9 +60,8 @@ use Rattle.promises.specs.Determined.{Determined, DeterminedPart}
 module _ {A : Type 0} where
   -- a contract that says what the answer, or the memory at exit, is. These calls have no other: `lent::Refusal`'s; those of `lent::words` and `lent::sets`;
   -- `lent::lists::address`, `cell`, `start_of`; `PropertyId::index`, `compare`; the constructors, `row` and `from_row` of `SelectorInputs` and `SelectorStep`;
-  -- those of `sheet::shape`, `table::shape`, `admit::sources`, `admit::cascades` and `matcher::states`; `root_state`; `cursor::rule_at`, `index_after`;
-  -- `CascadeEntryKey::compare`; `ChannelSet::contains`, `is_empty`, `len`. Of `lent::lists::part`, `rest`, `rest_halves` and `list_of`, which answer a part of a
-  -- lent slice, it is the numbers alone: these contracts leave open where the part stands
+  -- those of `sheet::shape`, `table::shape`, `admit::sources`, `admit::cascades` and `matcher::states`; `root_state`; `cursor::index_after`;
+  -- `CascadeEntryKey::compare`; `ChannelSet::contains`, `is_empty`, `len`.
   pub said-determined : (x : A) → Determined (λ r. r ≡ x)
   said-determined x a b p q = p ∙ sym q
 
@@ -193,18 +193,22 @@ module _ (w : List ℕ) (t : Table) (number stamp : ℕ) where
   pub matching-rules-determined : (whole : RefT (List ℕ)) → DeterminedPart (Rules w t number stamp whole)
   matching-rules-determined whole a b p q = rules-determined p q
 
--- ---- cursor: `new` and `moved`, at an index; `next`, with the cursor at exit; `step`
+-- ---- cursor: `new` and `moved`, at an index; `rule_at`; `next`, with the cursor at exit; `step`
 
 pub cursors-determined : (rules : RefT (List ℕ)) (index : ℕ) → Determined (λ (r : RuleCursor). (r .rules ≡ rules) × (r .index ≡ index))
-cursors-determined rules index a b p q = λ i. record { rules = (p .0 ∙ sym (q .0)) i; index = (p .1 ∙ sym (q .1)) i }
+cursors-determined rules index a b p q = Cursor.cursor-determined rules index p q
+
+pub rule-at-determined : (rules : List ℕ) (index : ℕ) → Determined (λ r. nextTold r ≡ nextOf rules index)
+rule-at-determined rules index a b p q = Cursor.next-determined rules index p q
 
 pub next-determined : (c : RuleCursor)
     → Determined (λ (o : NextRule × RuleCursor).
-    (o .0 ≡ nextAt (now (c .rules)) (c .index)) × (o .1 .rules ≡ c .rules) × (o .1 .index ≡ indexAfter (now (c .rules)) (c .index)))
-next-determined c a b p q = pairs (p .0 ∙ sym (q .0), cursors-determined (c .rules) (indexAfter (now (c .rules)) (c .index)) (a .1) (b .1) (p .1, p .2) (q .1, q .2))
+    (nextTold (o .0) ≡ nextOf (now (c .rules)) (c .index)) × (o .1 .rules ≡ c .rules) × (o .1 .index ≡ indexAfter (now (c .rules)) (c .index)))
+next-determined c a b p q =
+    pairs (Cursor.next-determined (now (c .rules)) (c .index) (p .0) (q .0), Cursor.cursor-determined (c .rules) (indexAfter (now (c .rules)) (c .index)) (p .1, p .2) (q .1, q .2))
 
-pub step-determined : (rules : List ℕ) (index : ℕ) → Determined (λ (r : Yielded). (r .rule ≡ nextAt rules index) × (r .index ≡ indexAfter rules index))
-step-determined rules index a b p q = λ i. record { rule = (p .0 ∙ sym (q .0)) i; index = (p .1 ∙ sym (q .1)) i }
+pub step-determined : (rules : List ℕ) (index : ℕ) → Determined (λ (r : Yielded). (nextTold (r .rule) ≡ nextOf rules index) × (r .index ≡ indexAfter rules index))
+step-determined rules index a b p q = Cursor.step-determined rules index p q
 
 -- ---- channels: `affected_channels`, `ChannelSet::lowest`
 
@@ -225,8 +229,8 @@ module _ (ids : List ℕ) (n : ℕ) where
   pub set-len-determined : Determined (λ r. changingTold r ≡ answered (countVerdict ids n) (0 ∷ length (setOf ids n) ∷ []))
   set-len-determined = told-determined SetAnswers.changing-distinct (answered (countVerdict ids n) (0 ∷ length (setOf ids n) ∷ []))
 
-  pub set-empty-determined : Determined (λ r. Sets.emptinessTold r ≡ answered (countVerdict ids n) (0 ∷ oneIf (eqb n 0) ∷ []))
-  set-empty-determined = told-determined SetAnswers.emptiness-distinct (answered (countVerdict ids n) (0 ∷ oneIf (eqb n 0) ∷ []))
+  pub set-empty-determined : Determined (λ r. Sets.emptinessTold r ≡ answered (countVerdict ids n) (0 ∷ oneIf (eqb (length (setOf ids n)) 0) ∷ []))
+  set-empty-determined = told-determined SetAnswers.emptiness-distinct (answered (countVerdict ids n) (0 ∷ oneIf (eqb (length (setOf ids n)) 0) ∷ []))
 
 -- ---- cascade: `winning_source_for_id`, `value_kind`, `get_entry_ref`, `resource_key`; `changed_channels`
 

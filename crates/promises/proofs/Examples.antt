@@ -15,7 +15,7 @@ use Rattle.lent.specs.Refusals.{firstOf, checksBelow}
 use Rattle.selector.specs.Tags.{Tags, tagOk, stepMatches}
 use Rattle.selector.specs.Rows.{rowAt, selectorOf}
 use Rattle.selector.specs.Checks.{selectorOver, pathOver, codesOver, subjectsOff, pathVerdict}
-use Rattle.selector.specs.Diagnosing.{goOn, tryFrom, judge, diagnose, diagnosisOf}
+use Rattle.selector.specs.Diagnosing.{someFit, otherErrors, lastOr, tried, judge, diagnose, diagnosisOf}
 use Rattle.selector.specs.Weighing.{countsOf}
 use Rattle.typed.specs.declared.SelectorInputs.{SelectorInputs}
 use Rattle.typed.specs.Typed.{inputsTags, stepTags, stepVerdict, stepMatching}
@@ -139,5 +139,5 @@ p8 =
 -- ---- THEOREM
 
 pub examples : map (λ e. answer (e .question)) table ≡ map (λ e. e .expected) table
-unfolding table ascendsFrom member contained insert sort firstOf allBelow tagOk stepMatches rowAt selectorOver pathOver codesOver subjectsOff pathVerdict goOn tryFrom judge diagnose diagnosisOf stepTags inputsTags stepVerdict stepMatching flatMap
+unfolding table ascendsFrom member contained insert sort firstOf allBelow tagOk stepMatches rowAt selectorOver pathOver codesOver subjectsOff pathVerdict someFit otherErrors lastOr tried judge diagnose diagnosisOf stepTags inputsTags stepVerdict stepMatching flatMap
 examples = rw p8

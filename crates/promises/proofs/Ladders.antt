@@ -10,13 +10,15 @@ use native.Mathlib.Decide.{decLt}
 use lib.ListN.{length, getD}
 use lib.Dec.{ltb, eqb}
 use borrow.Author.Tests.{ltb-true, ne-eqb}
+use Rattle.theory.specs.Lists.{spread}
 use Rattle.theory.specs.Paths.{Comb, child, descendant, Part}
 use Rattle.theory.proofs.Lists.{and-left, and-right}
 use Rattle.lent.specs.Refusals.{Check, firstOf, checksBelow, answered}
 use Rattle.lent.proofs.Refusals.{first-here, first-next, positive}
 use Rattle.selector.specs.Tags.{Tags}
 use Rattle.selector.specs.Matching.{matchingTold, yesNo}
-use Rattle.selector.specs.Diagnosing.{diagnosisTold, goOn, tryFrom, judge, diagnose}
+use Rattle.selector.specs.Diagnosing.{diagnosisTold, isFit, isMismatch, someFit, otherErrors, lastOr, tried, judge, diagnose}
+use Rattle.selector.proofs.Judging.{tried-one}
 use Rattle.selector.specs.declared.Diagnosis.{Diagnosis}
 use Rattle.selector.specs.declared.Diagnosis.the-variants as diagnosis
 use Rattle.style.specs.Entries.{Entry}
@@ -274,20 +276,12 @@ either : (b : Bool) (x y : Diagnosis) → Judged x → Judged y → Judged (cond
 either true x y p q = p
 either false x y p q = q
 
-go-on-judged : (d last : Diagnosis) (rest : Diagnosis → Diagnosis) → Judged d → Judged last → ((x : Diagnosis) → Judged x → Judged (rest x)) → Judged (goOn d last rest)
-unfolding goOn
-go-on-judged diagnosis.Fits last rest p q r = p
-go-on-judged diagnosis.EmptySelectorWithNonEmptyPath last rest p q r = r _ p
-go-on-judged (diagnosis.MissingSubject k i) last rest p q r = r _ p
-go-on-judged (diagnosis.StepMismatch k i) last rest p q r = r _ q
-go-on-judged (diagnosis.TrailingSubjects n i) last rest p q r = r _ p
-go-on-judged (diagnosis.MissingDescendant k i) last rest p q r = r _ p
-go-on-judged (diagnosis.Refused c) last rest p q r = r _ p
-
-try-judged : (f : ℕ → Diagnosis) → ((j : ℕ) → Judged (f j)) → (n from : ℕ) (last : Diagnosis) → Judged last → Judged (tryFrom f n from last)
-unfolding tryFrom
-try-judged f h zero from last q = q
-try-judged f h (suc n) from last q = go-on-judged (f from) last _ (h from) q (λ x p. try-judged f h n (from + 1) x p)
+try-judged : (f : ℕ → Diagnosis) → ((j : ℕ) → Judged (f j)) → (from n : ℕ) (last : Diagnosis) → Judged last → Judged (tried last (spread f from n))
+unfolding tried someFit otherErrors lastOr
+try-judged f h from zero last q = q
+try-judged f h from (suc n) last q =
+    subst Judged (sym (tried-one last (f from) (spread f (suc from) n)))
+    (either (isFit (f from)) diagnosis.Fits _ (_, refl) (try-judged f h (suc from) n _ (either (isMismatch (f from)) last (f from) q (h from))))
 
 module _ (hit : ℕ → ℕ → Bool) (far : ℕ → Bool) (m : ℕ) where
   at-judged : (k i : ℕ) (d : Diagnosis) → Judged d → Judged (cond (ltb i m) (cond (hit k i) d (diagnosis.StepMismatch k i)) (diagnosis.MissingSubject k i))
@@ -297,7 +291,7 @@ module _ (hit : ℕ → ℕ → Bool) (far : ℕ → Bool) (m : ℕ) where
   unfolding judge
   judge-judged zero k i = at-judged k i _ (either (ltb (i + 1) m) (diagnosis.TrailingSubjects (k + 1) (i + 1)) diagnosis.Fits (_, refl) (_, refl))
   judge-judged (suc after) k i =
-      at-judged k i _ (either (far k) _ _ (try-judged (λ j. judge hit far m after (k + 1) j) (judge-judged after (k + 1)) (m - (i + 1)) (i + 1) (diagnosis.MissingDescendant (k + 1) (i + 1)) (_, refl)) (judge-judged after (k + 1) (i + 1)))
+      at-judged k i _ (either (far k) _ _ (try-judged (λ j. judge hit far m after (k + 1) j) (judge-judged after (k + 1)) (i + 1) (m - (i + 1)) (diagnosis.MissingDescendant (k + 1) (i + 1)) (_, refl)) (judge-judged after (k + 1) (i + 1)))
 
 pub diagnosis-accepts : (steps : List ℕ) (n : ℕ) (combinators path : List ℕ) (m : ℕ) → Accepts (diagnosisTold (diagnose steps n combinators path m))
 unfolding diagnose
