@@ -32,14 +32,16 @@ use Rattle.selector.specs.Rows.{selectorOf, pathOf}
 use Rattle.selector.specs.Checks.{pathVerdict}
 use Rattle.selector.specs.Matching.{fits, matchingTold, matchingOf}
 use Rattle.selector.specs.Diagnosing.{diagnosisTold, diagnosisOf}
-use Rattle.selector.specs.Weighing.{countsOf, countsIn, weighingTold, weightTold, weighingOf}
+use Rattle.selector.specs.Weighing.{countsOf, countsIn, Summed, weighingTold, weightTold, weighingOf}
 use Rattle.selector.proofs.Distinct.{matching-distinct, diagnosis-distinct}
 use Rattle.selector.proofs.Fitting.{matching-places}
 use Rattle.selector.proofs.Promises.{answers-agree}
+use Rattle.selector.proofs.Saturation.{never-saturates}
 use Rattle.typed.specs.declared.SelectorStep.{SelectorStep}
 use Rattle.typed.specs.Typed.{stepTags, stepWeighing}
 use Rattle.sheet.specs.Sheets.{ruleAt, countsFor}
-use Rattle.sheet.specs.Reading.{weightVerdict, weightFrom, Weighed}
+use Rattle.sheet.specs.Reading.{weightVerdict, weightFrom}
+use Rattle.sheet.proofs.Saturation.{rule-never-saturates}
 use Rattle.table.specs.Tables.{Table, selectorsOf}
 use Rattle.matcher.specs.Answers.{Rules}
 use Rattle.keys.specs.declared.CascadeEntryKey.{CascadeEntryKey}
@@ -48,7 +50,7 @@ use Rattle.covered.specs.Covered.{Reached}
 use Rattle.promises.specs.Level3.{RepresentsLast, Standard}
 use Rattle.promises.proofs.Calls.{rules-exactly}
 use Rattle.promises.proofs.Tails.{tail-accepted, yes-fits, diagnosed-fits, tails-fit, last-is}
-use Rattle.promises.proofs.Sums.{weighs, sums-are, standard-is, selector-few, step-few, rule-there, rule-few, compare-front}
+use Rattle.promises.proofs.Sums.{weighs, sums-are, standard-is, step-few, rule-there, compare-front}
 
 -- ---- `matches_path` and `diagnose_path`
 
@@ -112,18 +114,18 @@ module _ {w : List ℕ} {t : Table} {number stamp : ℕ} {path : List Tags} (p :
 -- `specificity`, and `level3_specificity`: of lent rows
 module _ (steps : List ℕ) (n : ℕ) (combinators : List ℕ) (c : ℕ) (s : Specificity) where
   -- 01: "Ranking 0: pseudos, classes, parts, types, each summed over the steps"; and none passes 64: "Prove that the Rust's saturation is never met."
-  pub specificity-sums : weighingTold (Weighs s) ≡ weighingOf 0 steps n combinators c → Weighed (countsIn steps n) s
+  pub specificity-sums : weighingTold (Weighs s) ≡ weighingOf 0 steps n combinators c → Summed (countsIn steps n) s
   unfolding weighingOf
-  specificity-sums e = let (z, q) = weighs 0 _ (countsIn steps n) s e in sums-are (countsIn steps n) s q (selector-few steps n combinators c z)
+  specificity-sums e = let (z, q) = weighs 0 _ (countsIn steps n) s e in sums-are (countsIn steps n) s q (never-saturates steps n combinators c z)
 
   -- 01: "Ranking 1 (added): Level 3's specificity, first classes plus pseudos, then types plus parts"; its a, which counts ids, is 0
   pub specificity-level3 : weighingTold (Weighs s) ≡ weighingOf 1 steps n combinators c → Standard (countsIn steps n) s
   unfolding weighingOf
-  specificity-level3 e = let (z, q) = weighs 1 _ (countsIn steps n) s e in standard-is (countsIn steps n) s q (selector-few steps n combinators c z)
+  specificity-level3 e = let (z, q) = weighs 1 _ (countsIn steps n) s e in standard-is (countsIn steps n) s q (never-saturates steps n combinators c z)
 
 -- `SelectorStep::specificity`, and `SelectorStep::level3_specificity`: of one step by value
 module _ (x : SelectorStep) (s : Specificity) where
-  pub step-sums : weighingTold (Weighs s) ≡ stepWeighing 0 x → Weighed (countsOf (asSets (stepTags x)) ∷ []) s
+  pub step-sums : weighingTold (Weighs s) ≡ stepWeighing 0 x → Summed (countsOf (asSets (stepTags x)) ∷ []) s
   unfolding stepWeighing
   step-sums e = let (z, q) = weighs 0 _ (countsOf (asSets (stepTags x)) ∷ []) s e in sums-are _ s q (step-few x (first-clear 2 _ [] (omega arith) z .0))
 
@@ -133,11 +135,11 @@ module _ (x : SelectorStep) (s : Specificity) where
 
 -- `rule_weight`: of a rule by number
 module _ (w : List ℕ) (k : ℕ) (s : Specificity) where
-  pub rule-sums : weighingTold (Weighs s) ≡ answered (weightVerdict w k 0) (weightTold (weightOf 0 (countsFor (ruleAt w k .selector)))) → Weighed (countsFor (ruleAt w k .selector)) s
-  rule-sums e = let (z, q) = weighs 0 _ (countsFor (ruleAt w k .selector)) s e in sums-are _ s q (rule-few w k (rule-there w k 0 z))
+  pub rule-sums : weighingTold (Weighs s) ≡ answered (weightVerdict w k 0) (weightTold (weightOf 0 (countsFor (ruleAt w k .selector)))) → Summed (countsFor (ruleAt w k .selector)) s
+  rule-sums e = let (z, q) = weighs 0 _ (countsFor (ruleAt w k .selector)) s e in sums-are _ s q (let (shape, there) = rule-there w k 0 z in rule-never-saturates w k shape there)
 
   pub rule-level3 : weighingTold (Weighs s) ≡ answered (weightVerdict w k 1) (weightTold (weightOf 1 (countsFor (ruleAt w k .selector)))) → Standard (countsFor (ruleAt w k .selector)) s
-  rule-level3 e = let (z, q) = weighs 1 _ (countsFor (ruleAt w k .selector)) s e in standard-is _ s q (rule-few w k (rule-there w k 1 z))
+  rule-level3 e = let (z, q) = weighs 1 _ (countsFor (ruleAt w k .selector)) s e in standard-is _ s q (let (shape, there) = rule-there w k 1 z in rule-never-saturates w k shape there)
 
 -- "compared in that order": two such answers in ranking 1 compare as Level 3 compares the specificities
 pub standard-order : {counts counts′ : List Counts} {s s′ : Specificity} → Standard counts s → Standard counts′ s′

@@ -1,10 +1,10 @@
--- What a call that answers a weight answers; that none of its sums passes 64. Proofs for Demand2.antt. Assumes nothing.
+-- What a call that answers a weight answers; that no sum of a step by value passes 64. Proofs for Demand2.antt. Assumes nothing.
 use mathlib.Core.Path.{_≡_, refl, sym, ap, _∙_}
 use mathlib.Core.Bool.{Bool, true, false, not, cond}
 use mathlib.Core.Logic.{_≢_}
 use mathlib.Core.Option.{Option, none, some}
 use mathlib.Core.List.{List, [], _∷_, _++_}
-use Prim.Native.Nat.{ℕ, zero, suc, _+_, _-_, _≤_, _<_}
+use Prim.Native.Nat.{ℕ, _≤_, _<_}
 use native.Mathlib.Omega.{arith}
 use lib.ListN.{length, getD}
 use lib.Dec.{ltb}
@@ -15,22 +15,18 @@ use Rattle.theory.specs.Weight.{Counts, total, Weight, weightOf}
 use Rattle.theory.proofs.Lists.{or-first, or-second, sort-length}
 use Rattle.theory.proofs.Spreads.{length-spread}
 use Rattle.theory.proofs.Level3.{weight-level3}
-use Rattle.lent.specs.Pool.{startOf}
 use Rattle.lent.specs.Refusals.{answered}
 use Rattle.lent.proofs.Refusals.{first-clear}
 use Rattle.selector.specs.declared.Specificity.{Specificity}
 use Rattle.selector.specs.Tags.{asSets}
 use Rattle.selector.specs.declared.Weighing.the-variants.{Weighs}
-use Rattle.selector.specs.Checks.{selectorVerdict}
-use Rattle.selector.specs.Weighing.{isSet, countsOf, countsIn, weighingTold, weightTold}
-use Rattle.selector.proofs.Saturation.{never-saturates}
+use Rattle.selector.specs.Weighing.{isSet, countsOf, Summed, weighingTold, weightTold}
+use Rattle.selector.proofs.Saturation.{Unsaturated}
 use Rattle.typed.specs.declared.SelectorStep.{SelectorStep}
 use Rattle.typed.specs.Typed.{typeOf, partOf, stepTags, classNumber, pseudoNumber, over}
-use Rattle.sheet.specs.Layout.{rulesIn, stepPlace}
-use Rattle.sheet.specs.Sheets.{ruleAt, countsFor, ruleStepEnds}
+use Rattle.sheet.specs.Layout.{rulesIn}
 use Rattle.sheet.specs.Shape.{sheetShape}
-use Rattle.sheet.specs.Reading.{weightVerdict, weightFrom, Weighed}
-use Rattle.sheet.proofs.ReadLaws.{Adding, rule-steps, step-counted, sum-start, sum-there, sum-next, sum-end}
+use Rattle.sheet.specs.Reading.{weightVerdict, weightFrom}
 use Rattle.matcher.proofs.Answers as answers
 use Rattle.promises.specs.Level3.{Standard}
 
@@ -46,15 +42,8 @@ weighs ranking v counts s e =
     let q : weighingTold (Weighs s) ≡ weightTold (weightOf ranking counts) = rw z at e in
     (z, ap readWeight q)
 
--- each of the four sums
-pub record Few (counts : List Counts) : Type 0 where
-  pub pseudos : weightOf 0 counts .first ≤ 64
-  pub classes : weightOf 0 counts .second ≤ 64
-  pub parts : weightOf 0 counts .third ≤ 64
-  pub types : weightOf 0 counts .fourth ≤ 64
-
 module _ (counts : List Counts) (s : Specificity) where
-  pub sums-are : weightFrom s ≡ weightOf 0 counts → Few counts → Weighed counts s
+  pub sums-are : weightFrom s ≡ weightOf 0 counts → Unsaturated counts → Summed counts s
   sums-are q few =
       let a : s .0 ≡ weightOf 0 counts .first = ap (λ (w : Weight). w .first) q in
       let b : s .1 ≡ weightOf 0 counts .second = ap (λ (w : Weight). w .second) q in
@@ -71,18 +60,13 @@ module _ (counts : List Counts) (s : Specificity) where
         types-few = omega (arith, few .types);
       }
 
-  pub standard-is : weightFrom s ≡ weightOf 1 counts → Few counts → Standard counts s
+  pub standard-is : weightFrom s ≡ weightOf 1 counts → Unsaturated counts → Standard counts s
   standard-is q few = record {
     weight = q;
     level3 = weight-level3 counts ∙ sym (ap (λ (w : Weight). 0 ∷ w .first ∷ w .second ∷ []) q);
-    first-few = omega (arith, ap (λ (w : Weight). w .first) q, few .pseudos, few .classes);
-    second-few = omega (arith, ap (λ (w : Weight). w .second) q, few .parts, few .types);
+    first-few = omega (arith, ap (λ (w : Weight). w .first) q, few .ids);
+    second-few = omega (arith, ap (λ (w : Weight). w .second) q, few .tags);
   }
-
--- ---- a selector in lent rows
-
-pub selector-few : (steps : List ℕ) (n : ℕ) (combinators : List ℕ) (c : ℕ) → selectorVerdict steps n combinators c ≡ 0 → Few (countsIn steps n)
-selector-few steps n combinators c z = let (p, q, a, t, _, _) = never-saturates steps n combinators c z in record { pseudos = p; classes = q; parts = a; types = t }
 
 -- ---- a rule by number
 
@@ -93,49 +77,24 @@ rule-there w r ranking z =
     let (b, _) = first-clear 9 (not (ltb r (rulesIn w))) _ (omega arith) f in
     (not-false _ a, ltb-true r (rulesIn w) (not-false _ b))
 
-module _ (w : List ℕ) (r : ℕ) (pre : (sheetShape w ≡ true) × (r < rulesIn w)) where
-  abbrev from : ℕ
-  from = startOf (ruleStepEnds w) r
-
-  abbrev to : ℕ
-  to = ruleStepEnds w r
-
-  -- with `left` steps to go
-  summed : (left : ℕ) {s p c a t : ℕ} → Adding w r (startOf (ruleStepEnds w) r) (ruleStepEnds w r) s p c a t → ruleStepEnds w r ≡ s + left
-      → (d : Specificity) × Weighed (countsFor (ruleAt w r .selector)) d
-  summed zero {s} {p} {c} {a} {t} m e = (record { 0 = p; 1 = c; 2 = a; 3 = t }, sum-end m (omega arith))
-  summed (suc left) {s} m e =
-      let h : s < ruleStepEnds w r = omega arith in
-      let d : Specificity = record { 0 = getD w (stepPlace s + 5) 0; 1 = getD w (stepPlace s + 4) 0; 2 = getD w (stepPlace s + 2) 0; 3 = getD w (stepPlace s) 0 } in
-      summed left (sum-next m d h (step-counted w s (sum-there m h) (stepPlace s) refl (d .0) (d .1) (d .2) (d .3) refl refl refl refl)) (omega arith)
-
-  pub rule-few : Few (countsFor (ruleAt w r .selector))
-  rule-few =
-      let (d, m) = summed (to - from) (sum-start w r from to pre refl refl) (omega (arith, rule-steps w (pre .0) r (pre .1) .0)) in
-      record {
-        pseudos = omega (arith, m .pseudos, m .pseudos-few);
-        classes = omega (arith, m .classes, m .classes-few);
-        parts = omega (arith, m .parts, m .parts-few);
-        types = omega (arith, m .types, m .types-few);
-      }
-
 -- ---- a step by value
 
 set-few : (t : Option ℕ) → isSet t ≤ 1
 set-few none = omega arith
 set-few (some n) = omega arith
 
-pub step-few : (x : SelectorStep) → over 8 (x .«class_count») (x .«pseudo_count») ≡ false → Few (countsOf (asSets (stepTags x)) ∷ [])
+pub step-few : (x : SelectorStep) → over 8 (x .«class_count») (x .«pseudo_count») ≡ false → Unsaturated (countsOf (asSets (stepTags x)) ∷ [])
 unfolding total countsOf stepTags
 step-few x e =
     let classes = ltb-false 8 (x .«class_count») (or-first (ltb 8 (x .«class_count»)) _ e) in
     let pseudos = ltb-false 8 (x .«pseudo_count») (or-second (ltb 8 (x .«class_count»)) _ e) in
-    record {
-      pseudos = omega (arith, sort-length (stepTags x .pseudos), length-spread (pseudoNumber (x .«required_pseudos»)) 0 (x .«pseudo_count»));
-      classes = omega (arith, sort-length (stepTags x .classes), length-spread (classNumber (x .«required_classes»)) 0 (x .«class_count»));
-      parts = omega (arith, set-few (partOf (x .«part_tag»)));
-      types = omega (arith, set-few (typeOf (x .«type_tag»)));
-    }
+    let p = sort-length (stepTags x .pseudos) in
+    let q = length-spread (pseudoNumber (x .«required_pseudos»)) 0 (x .«pseudo_count») in
+    let r = sort-length (stepTags x .classes) in
+    let s = length-spread (classNumber (x .«required_classes»)) 0 (x .«class_count») in
+    let a = set-few (partOf (x .«part_tag»)) in
+    let t = set-few (typeOf (x .«type_tag»)) in
+    record { pseudos = omega arith; classes = omega arith; parts = omega arith; types = omega arith; ids = omega arith; tags = omega arith }
 
 -- ---- what begins two lists decides, unless it is the same
 

@@ -8,7 +8,7 @@ use native.Mathlib.Nat.{add-assoc}
 use native.Mathlib.Omega.{arith}
 use native.Mathlib.Decide.{decLe}
 use lib.ListN.{length, getD, drop, length-drop}
-use lib.Seq.{getD-drop, drop-drop, drop-nil}
+use lib.Seq.{getD-drop, drop-nil}
 use lib.Dec.{ltb}
 use borrow.Author.Tests.{le-ltb, ltb-false, not-false}
 use Rattle.theory.specs.Paths.{Selector, FitsTail}
@@ -23,28 +23,24 @@ use Rattle.selector.specs.declared.Matching.the-variants.{Yes}
 use Rattle.selector.specs.declared.Diagnosis.{Diagnosis}
 use Rattle.selector.specs.declared.Diagnosis.the-variants as diagnosis
 use Rattle.selector.specs.Tags.{Tags, stepMatches}
-use Rattle.selector.specs.Rows.{rowAt, subjectAt, selectorOf, pathOf}
+use Rattle.selector.specs.Rows.{subjectAt, selectorOf, pathOf}
 use Rattle.selector.specs.Checks.{rowFits, selectorOver, pathOver, combinatorsOff, codesOver, tagsAscend, subjectsOff, pathVerdict}
 use Rattle.selector.specs.Matching.{fitsFrom, fits, matchingTold, yesNo, matchingOf}
 use Rattle.selector.specs.Diagnosing.{diagnosisTold, diagnosisOf}
 use Rattle.selector.proofs.Agree.{diagnosis-fits}
 use Rattle.selector.proofs.Answers.{accepted, told-is}
 use Rattle.selector.proofs.Distinct.{matching-distinct, diagnosis-distinct}
-use Rattle.selector.proofs.Fitting.{fits-level3}
+use Rattle.selector.proofs.Fitting.{subject-drop, fits-level3}
 use Rattle.promises.specs.Level3.{RepresentsLast}
 
 -- ---- row i of the tail is row j + i
 
 module _ (path : List ℕ) (j i : ℕ) where
-  further : 38 * (j + i) ≡ 38 * j + 38 * i
-  further = omega arith
-
   fits-drop : rowFits 16 (drop (38 * j) path) (38 * i) ≡ rowFits 16 path (38 * (j + i))
-  fits-drop = simp (getD-drop, further, ← add-assoc)
+  fits-drop = let further : 38 * (j + i) ≡ 38 * j + 38 * i = omega arith in simp (getD-drop, further, ← add-assoc)
 
   ascends-drop : tagsAscend (subjectAt (drop (38 * j) path) i) ≡ tagsAscend (subjectAt path (j + i))
-  unfolding rowAt
-  ascends-drop = simp (getD-drop, drop-drop, further, ← add-assoc)
+  ascends-drop = ap tagsAscend (subject-drop path j i)
 
 -- ---- the checks of a path
 
