@@ -23,7 +23,7 @@ use Rattle.made.specs.Made.{Halves}
 use Rattle.made.proofs.Pushed.{style-shaped, group-shaped}
 use Rattle.gather.specs.declared.Filled.{Filled}
 use Rattle.gather.specs.declared.Taken.{Taken}
-use Rattle.gather.specs.Opened.{Open, nothing, direct, rules, none, ruleCount, entriesGiven, idsGiven, closeVerdict, closed}
+use Rattle.gather.specs.Opened.{Open, nothing, direct, group, none, ruleCount, entriesGiven, idsGiven, closeVerdict, closed}
 use Rattle.gather.specs.Making.{isDirect, directFaults, groupFaults, closingVerdict}
 use Rattle.gather.specs.Memory.{filledOf, openOf, Roomy, Sound, Closes}
 use Rattle.gather.proofs.Opening.{open-nothing, open-direct, open-group, kinds, rules-counted, entries-counted}
@@ -85,7 +85,6 @@ newly-sound kind origin m r h = record {
   last-combinators = omega arith;
   combinators = omega arith;
   entries = omega arith;
-  row = refl;
   rows = λ k l. absurd (omega arith);
   ids = refl;
   ids-fit = omega arith;
@@ -99,7 +98,7 @@ pub newly-direct : (origin : ℕ) (m : Group) → openOf (newly 1 origin) m ≡ 
 unfolding openOf
 newly-direct origin m = refl
 
-pub newly-rules : (origin : ℕ) (m : Group) → openOf (newly 2 origin) m ≡ rules origin none
+pub newly-rules : (origin : ℕ) (m : Group) → openOf (newly 2 origin) m ≡ group origin none
 unfolding openOf
 newly-rules origin m = refl
 
@@ -108,21 +107,22 @@ newly-rules origin m = refl
 module _ (w : List ℕ) (f : Filled) (m : Group) (s : Sound f m) (z : sheetShape w ≡ true) (after : Open) (fault : ℕ) (r : Taken) where
   -- its own fault
   pub closes-faulty : (k : ℕ) → k ≡ fault → 0 < k → r ≡ record { verdict = k; filled = f }
-      → Closes (closingVerdict fault w (openOf f m)) w (closed w (openOf f m)) (openOf f m) after r w m
+      → Closes fault w f m after r w
   unfolding closingVerdict
   closes-faulty k q h e =
       let n : eqb k 0 ≡ false = ne-eqb k 0 (λ y. omega arith) in
       record {
         answer = rw (e, ← q, n);
         sheet = rw (← q, n, n);
-        opens = rw (e, ← q, n, n);
+        opens = rw e (λ y. absurd (omega arith));
+        keeps = λ _. rw e;
         sound = rw e s;
         shape = z;
       }
 
   module _ (v : ℕ) (x : List ℕ) (o : 0 ≡ fault) (p : Pushes (closeVerdict w (openOf f m)) w (closed w (openOf f m)) v x) where
     -- what it closes is refused
-    pub closes-refused : (v ≡ 0 → ⊥) → r ≡ record { verdict = v; filled = f } → Closes (closingVerdict fault w (openOf f m)) w (closed w (openOf f m)) (openOf f m) after r x m
+    pub closes-refused : (v ≡ 0 → ⊥) → r ≡ record { verdict = v; filled = f } → Closes fault w f m after r x
     unfolding closingVerdict
     closes-refused h e =
         let n : eqb v 0 ≡ false = ne-eqb v 0 h in
@@ -130,13 +130,14 @@ module _ (w : List ℕ) (f : Filled) (m : Group) (s : Sound f m) (z : sheetShape
         record {
           answer = rw (e, ← o, ← p .answer);
           sheet = rw (← o, ← p .answer, n) x-is;
-          opens = rw (e, ← o, ← p .answer, n);
+          opens = rw e (λ y. absurd (h y));
+          keeps = λ _. rw e;
           sound = rw e s;
           shape = rw x-is z;
         }
 
     pub closes-accepted : Halves (m .properties) → v ≡ 0 → (f′ : Filled) → openOf f′ m ≡ after → Sound f′ m → r ≡ record { verdict = 0; filled = f′ }
-        → Closes (closingVerdict fault w (openOf f m)) w (closed w (openOf f m)) (openOf f m) after r x m
+        → Closes fault w f m after r x
     unfolding closingVerdict
     closes-accepted u h f′ a s′ e =
         let c : closeVerdict w (openOf f m) ≡ 0 = sym (p .answer) ∙ h in
@@ -144,7 +145,8 @@ module _ (w : List ℕ) (f : Filled) (m : Group) (s : Sound f m) (z : sheetShape
         record {
           answer = rw (e, ← o, c);
           sheet = rw (← o, c) x-is;
-          opens = rw (e, ← o, c) a;
+          opens = λ _. rw e a;
+          keeps = rw e (λ y. absurd (y refl));
           sound = rw e s′;
           shape = rw x-is (closed-shaped w f m s u z c);
         }
@@ -152,7 +154,7 @@ module _ (w : List ℕ) (f : Filled) (m : Group) (s : Sound f m) (z : sheetShape
     -- and what it opens stands in no lent list yet
     pub closes-opened : Halves (m .properties) → v ≡ 0 → (kind origin : ℕ) (g : Filled) → kind ≤ 2 → openOf (newly kind origin) m ≡ after
         → g ≡ newly kind origin → r ≡ record { verdict = 0; filled = g }
-        → Closes (closingVerdict fault w (openOf f m)) w (closed w (openOf f m)) (openOf f m) after r x m
+        → Closes fault w f m after r x
     closes-opened u h kind origin g k a q e = closes-accepted u h g (rw q a) (rw q (newly-sound kind origin m (s .room) k)) e
 
 -- ---- their own faults

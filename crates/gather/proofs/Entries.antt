@@ -17,7 +17,7 @@ use Rattle.given.specs.Given.{Group, given}
 use Rattle.given.specs.Pushing.{allEntriesIn}
 use Rattle.gather.specs.declared.Filled.{Filled}
 use Rattle.gather.specs.declared.Taken.{Taken}
-use Rattle.gather.specs.Opened.{rules, idsGiven, oneMore, entriesGiven, withEntry}
+use Rattle.gather.specs.Opened.{idsGiven, oneMore, entriesGiven, withEntry}
 use Rattle.gather.specs.Making.{isDirect, groupOf, inRule, lastEntries, entryFaults}
 use Rattle.gather.specs.Memory.{openOf, Sound, Adds}
 use Rattle.gather.proofs.Filling.{one-grown, last, last-in, last-kept, take-more}
@@ -89,7 +89,7 @@ module _ (w : List ℕ) (f : Filled) (r s c p k n : List ℕ) (h : Sound f (give
   module _ (b : Bool) (q : b ≡ styled) where
     module _ (t : Taken) where
       pub entry-outside : b ≡ false → t ≡ record { verdict = 10; filled = f }
-          → Adds (firstOf (entryFaults w (openOf f lent) kind)) (openOf f lent) (withEntry property kind number (openOf f lent)) t lent
+          → Adds (firstOf (entryFaults w (openOf f lent) kind)) f lent (withEntry property kind number (openOf f lent)) t lent
       entry-outside x e =
           adds-refused h (first-hit 10 true (not (isDirect (openOf f lent) || inRule (openOf f lent))) _ (rw (sym styled-is, sym q, x)) refl) (omega arith) e
 
@@ -105,12 +105,12 @@ module _ (w : List ℕ) (f : Filled) (r s c p k n : List ℕ) (h : Sound f (give
 
       module _ (t : Taken) where
         pub entry-kind : 3 < kind → t ≡ record { verdict = 10; filled = f }
-            → Adds (firstOf (entryFaults w (openOf f lent) kind)) (openOf f lent) (withEntry property kind number (openOf f lent)) t lent
+            → Adds (firstOf (entryFaults w (openOf f lent) kind)) f lent (withEntry property kind number (openOf f lent)) t lent
         entry-kind l e = adds-refused h (limits true _ _ 10 (lt-ltb 3 kind l) refl refl (first-hit 10 true true _ refl refl)) (omega arith) e
 
       module _ (l : kind ≤ 3) (m : ℕ) (o : m ≡ counted) where
         pub entry-over : (t : Taken) → 32 ≤ m → t ≡ record { verdict = 2; filled = f }
-            → Adds (firstOf (entryFaults w (openOf f lent) kind)) (openOf f lent) (withEntry property kind number (openOf f lent)) t lent
+            → Adds (firstOf (entryFaults w (openOf f lent) kind)) f lent (withEntry property kind number (openOf f lent)) t lent
         entry-over t g e =
             adds-refused h
             (limits false true _ 2 (le-ltb 3 kind l) (lt-ltb 32 (counted + 1) (omega arith)) refl (first-pass 10 2 false false _ refl refl (first-hit 2 true true _ refl refl)))
@@ -118,7 +118,7 @@ module _ (w : List ℕ) (f : Filled) (r s c p k n : List ℕ) (h : Sound f (give
 
         module _ (g : m < 32) (a : ℕ) (z : a ≡ allEntriesIn w) where
           pub entry-sheet-over : (t : Taken) → 4096 ≤ a + f .entries → t ≡ record { verdict = 2; filled = f }
-              → Adds (firstOf (entryFaults w (openOf f lent) kind)) (openOf f lent) (withEntry property kind number (openOf f lent)) t lent
+              → Adds (firstOf (entryFaults w (openOf f lent) kind)) f lent (withEntry property kind number (openOf f lent)) t lent
           entry-sheet-over t d e =
               adds-refused h
               (limits false false true 2 (le-ltb 3 kind l) (le-ltb 32 (counted + 1) (omega arith)) (lt-ltb 4096 (allEntriesIn w + f .entries + 1) (omega arith))
@@ -183,7 +183,6 @@ module _ (w : List ℕ) (f : Filled) (r s c p k n : List ℕ) (h : Sound f (give
         last-combinators = rw (x, y) (h .last-combinators);
         combinators = h .combinators;
         entries = omega arith;
-        row = h .row;
         rows = h .rows;
         ids = h .ids;
         ids-fit = h .ids-fit;
@@ -199,14 +198,14 @@ module _ (w : List ℕ) (f : Filled) (r s c p k n : List ℕ) (h : Sound f (give
       one-number = one-grown n (f .entries) number (omega (arith, h .room .numbers))
 
       module _ (t : Taken) (q : t ≡ record { verdict = 0; filled = grown }) where
-        entry-direct : f .kind ≡ 1 → Adds (firstOf (entryFaults w (openOf f lent) kind)) (openOf f lent) (withEntry property kind number (openOf f lent)) t (lent′ r)
+        entry-direct : f .kind ≡ 1 → Adds (firstOf (entryFaults w (openOf f lent) kind)) f lent (withEntry property kind number (openOf f lent)) t (lent′ r)
         unfolding withEntry
         entry-direct e =
             adds-accepted (entry-sound r (h .room .rules) refl refl) (sym z)
             (rw (open-direct grown (lent′ r) e, open-direct f lent e, one-property, one-kind, one-number)) q
 
         entry-rule : f .kind ≡ 2 → 1 ≤ f .rules
-            → Adds (firstOf (entryFaults w (openOf f lent) kind)) (openOf f lent) (withEntry property kind number (openOf f lent)) t
+            → Adds (firstOf (entryFaults w (openOf f lent) kind)) f lent (withEntry property kind number (openOf f lent)) t
             (lent′ (set r (3 * f .rules - 3 + 2) (getD r (3 * f .rules - 3 + 2) 0 + 1)))
         unfolding withEntry
         entry-rule e u =
@@ -224,7 +223,7 @@ module _ (w : List ℕ) (f : Filled) (r s c p k n : List ℕ) (h : Sound f (give
             → v ≡ property
             → k′ ≡ set k (f .entries) kind
             → n′ ≡ set n (f .entries) number
-            → Adds (firstOf (entryFaults w (openOf f lent) kind)) (openOf f lent) (withEntry property kind number (openOf f lent)) t (given r′ s c (set p (f .entries) v) k′ n′)
+            → Adds (firstOf (entryFaults w (openOf f lent) kind)) f lent (withEntry property kind number (openOf f lent)) t (given r′ s c (set p (f .entries) v) k′ n′)
         entry-added r′ k′ n′ v a x y o =
             styles passed
             (λ e. let i : r′ ≡ r = a ∙ rw e in rw (i, x, y, o) (entry-direct e))

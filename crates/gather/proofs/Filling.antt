@@ -5,7 +5,7 @@ use Prim.Native.Nat.{ℕ, _+_, _-_, _*_, _≤_, _<_}
 use native.Mathlib.Omega.{arith}
 use native.Mathlib.Decide.{decLt}
 use lib.ListN.{length, getD, take, drop, set, length-append, length-set}
-use lib.Seq.{sets, sets-eq, length-take-le, take-at, take-set-lt, getD-take, getD-append-add, getD-set-same, getD-set-other, drop-at}
+use lib.Seq.{sets, sets-eq, length-take-le, take-at, take-set-lt, getD-take, getD-append-add, getD-set-same, getD-set-other}
 use Rattle.records.specs.Rows.{emptyRow}
 use Rattle.gather.specs.Opened.{oneMore}
 
@@ -67,10 +67,3 @@ steps-few l n k h g = elim (decLt 0 n) [
   | yes p ↦ omega arith
   | no p ↦ omega (arith, last-none l n (omega arith))
 ]
-
--- ---- the last row
-
-pub last-row-new : (a : List ℕ) → drop (length (a ++ emptyRow 8) - 22) (a ++ emptyRow 8) ≡ emptyRow 8
-last-row-new a =
-    let e : length (a ++ emptyRow 8) - 22 ≡ length a = omega (arith, length-append a (emptyRow 8)) in
-    rw e (drop-at a (emptyRow 8) (length a) refl)

@@ -8,7 +8,7 @@ use native.Mathlib.Omega.{arith}
 use lib.ListN.{length, getD, take, drop, length-drop}
 use lib.Seq.{take-nil, take-all, take-take, take-append-le, drop-append-le, drop-append-seam, drop-drop, getD-take, getD-drop}
 use lib.Dec.{ltb}
-use borrow.Author.Tests.{ltb-false, not-true}
+use borrow.Author.Tests.{ltb-false, le-ltb, not-true}
 use Rattle.theory.specs.Lists.{sort}
 use Rattle.theory.proofs.Lists.{and-left, and-right}
 use Rattle.theory.proofs.Spreads.{spread-same}
@@ -42,14 +42,19 @@ part-alone s at a n h =
 word-alone : (s : List ℕ) (at a : ℕ) → a < 22 → getD (take 22 (drop at s)) a 0 ≡ getD s (at + a) 0
 word-alone s at a h = getD-take 22 (drop at s) a 0 h ∙ getD-drop at s a 0
 
-fitting : (n : ℕ) → not (ltb 8 n) ≡ true → n ≤ 8
-fitting n h = ltb-false 8 n (not-true (ltb 8 n) h)
+-- a row's two counts, by the size
+module _ (size : ℕ) (s : List ℕ) (at : ℕ) where
+  fitting : (n : ℕ) → not (ltb size n) ≡ true → n ≤ size
+  fitting n h = ltb-false size n (not-true (ltb size n) h)
 
-pub fits-classes : (s : List ℕ) (at : ℕ) → rowFits 8 s at ≡ true → getD s (at + 4) 0 ≤ 8
-fits-classes s at h = fitting _ (and-left _ (not (ltb 8 (getD s (at + 5) 0))) h)
+  pub fits-classes : rowFits size s at ≡ true → getD s (at + 4) 0 ≤ size
+  fits-classes h = fitting _ (and-left _ (not (ltb size (getD s (at + 5) 0))) h)
 
-pub fits-pseudos : (s : List ℕ) (at : ℕ) → rowFits 8 s at ≡ true → getD s (at + 5) 0 ≤ 8
-fits-pseudos s at h = fitting _ (and-right (not (ltb 8 (getD s (at + 4) 0))) _ h)
+  pub fits-pseudos : rowFits size s at ≡ true → getD s (at + 5) 0 ≤ size
+  fits-pseudos h = fitting _ (and-right (not (ltb size (getD s (at + 4) 0))) _ h)
+
+  pub row-fits : getD s (at + 4) 0 ≤ size → getD s (at + 5) 0 ≤ size → rowFits size s at ≡ true
+  row-fits c p = rw (le-ltb size (getD s (at + 4) 0) c, le-ltb size (getD s (at + 5) 0) p)
 
 -- a row that fits is what its 22 words say
 pub row-alone : (s : List ℕ) (at : ℕ) → rowFits 8 s at ≡ true → rowAt 8 (take 22 (drop at s)) 0 ≡ rowAt 8 s at
@@ -63,8 +68,8 @@ row-alone s at h =
       word-alone s at 3 (omega arith),
       word-alone s at 4 (omega arith),
       word-alone s at 5 (omega arith),
-      part-alone s at 6 (getD s (at + 4) 0) (omega (arith, fits-classes s at h)),
-      part-alone s at 14 (getD s (at + 5) 0) (omega (arith, fits-pseudos s at h)),
+      part-alone s at 6 (getD s (at + 4) 0) (omega (arith, fits-classes 8 s at h)),
+      part-alone s at 14 (getD s (at + 5) 0) (omega (arith, fits-pseudos 8 s at h)),
       z,
     )
 

@@ -9,7 +9,7 @@ use borrow.Author.Tests.{ne-eqb}
 use Rattle.given.specs.Given.{Group}
 use Rattle.gather.specs.declared.Filled.{Filled}
 use Rattle.gather.specs.declared.Taken.{Taken}
-use Rattle.gather.specs.Opened.{Open, nothing, direct, rules, ruleCount, entriesGiven}
+use Rattle.gather.specs.Opened.{Open, nothing, direct, group, ruleCount, entriesGiven}
 use Rattle.gather.specs.Making.{isGroup}
 use Rattle.gather.specs.Memory.{filledOf, openOf, Sound, Adds}
 
@@ -24,7 +24,7 @@ module _ (f : Filled) (m : Group) where
   unfolding openOf
   open-direct e = rw e
 
-  pub open-group : f .kind ≡ 2 → openOf f m ≡ rules (f .origin) (filledOf f m)
+  pub open-group : f .kind ≡ 2 → openOf f m ≡ group (f .origin) (filledOf f m)
   unfolding openOf
   open-group e = rw e
 
@@ -38,18 +38,20 @@ kinds (suc (suc (suc k))) h a b c = absurd (omega arith)
 -- ---- refused, and accepted
 
 pub adds-refused : {f : Filled} {m : Group} {after : Open} {fault v : ℕ} {r : Taken}
-    → Sound f m → v ≡ fault → 0 < v → r ≡ record { verdict = v; filled = f } → Adds fault (openOf f m) after r m
+    → Sound f m → v ≡ fault → 0 < v → r ≡ record { verdict = v; filled = f } → Adds fault f m after r m
 adds-refused {f} {m} {after} {fault} {v} {r} s q h e = record {
   answer = rw e q;
-  opens = rw (e, ← q, ne-eqb v 0 (λ z. omega arith));
+  opens = rw e (λ z. absurd (omega arith));
+  keeps = λ _. (rw e, refl);
   sound = rw e s;
 }
 
-pub adds-accepted : {f : Filled} {m : Group} {before after : Open} {fault : ℕ} {r : Taken}
-    → Sound f m → 0 ≡ fault → openOf f m ≡ after → r ≡ record { verdict = 0; filled = f } → Adds fault before after r m
-adds-accepted {f} {m} {before} {after} {fault} {r} s q o e = record {
+pub adds-accepted : {f₀ f : Filled} {m₀ m : Group} {after : Open} {fault : ℕ} {r : Taken}
+    → Sound f m → 0 ≡ fault → openOf f m ≡ after → r ≡ record { verdict = 0; filled = f } → Adds fault f₀ m₀ after r m
+adds-accepted {f₀} {f} {m₀} {m} {after} {fault} {r} s q o e = record {
   answer = rw e q;
-  opens = rw (e, ← q) o;
+  opens = λ _. rw e o;
+  keeps = rw e (λ z. absurd (z refl));
   sound = rw e s;
 }
 

@@ -28,17 +28,14 @@ use Rattle.given.specs.Given.{Group, given}
 use Rattle.given.specs.Leaves.{Ids}
 use Rattle.gather.specs.declared.Filled.{Filled}
 use Rattle.gather.specs.declared.Taken.{Taken}
-use Rattle.gather.specs.Opened.{rules, ruleCount, lastOf, lastRow, idsGiven, withRequirement}
+use Rattle.gather.specs.Opened.{group, ruleCount, lastOf, lastRow, idsGiven, withRequirement}
 use Rattle.gather.specs.Making.{groupOf, inStep, inGroup, requirementFaults}
 use Rattle.gather.specs.Memory.{filledOf, openOf, Sound, Adds}
 use Rattle.gather.proofs.Opening.{open-nothing, open-direct, open-group, kinds, adds-refused, adds-accepted, rules-counted}
 use Rattle.gather.proofs.Filling.{last-in, steps-few}
-use Rattle.gather.proofs.Ids.{drop-take, row-alone, fits-classes, fits-pseudos, fits-same, fits-read, ids-same, ids-next, row-before}
+use Rattle.gather.proofs.Ids.{drop-take, row-alone, fits-classes, fits-pseudos, row-fits, fits-same, fits-read, ids-same, ids-next, row-before}
 
 -- ---- a row with one item more
-
-row-fits : (l : List ℕ) (at : ℕ) → getD l (at + 4) 0 ≤ 8 → getD l (at + 5) 0 ≤ 8 → rowFits 8 l at ≡ true
-row-fits l at c p = rw (le-ltb 8 (getD l (at + 4) 0) c, le-ltb 8 (getD l (at + 5) 0) p)
 
 tag-low : (which : ℕ) → tagPlace which ≤ 2
 tag-low which = elim (ℕ-discrete which 0) [
@@ -50,9 +47,9 @@ module _ (which id : ℕ) (row : List ℕ) (r : length row ≡ 22) (h : rowFits 
   -- a tag leaves the counts
   tag-fits : rowFits 8 (withTag which id row) 0 ≡ true
   tag-fits =
-      row-fits (withTag which id row) 0
-      (rw (sets-after row (tagPlace which) (1 ∷ id ∷ []) 4 (omega (arith, tag-low which))) (fits-classes row 0 h))
-      (rw (sets-after row (tagPlace which) (1 ∷ id ∷ []) 5 (omega (arith, tag-low which))) (fits-pseudos row 0 h))
+      row-fits 8 (withTag which id row) 0
+      (rw (sets-after row (tagPlace which) (1 ∷ id ∷ []) 4 (omega (arith, tag-low which))) (fits-classes 8 row 0 h))
+      (rw (sets-after row (tagPlace which) (1 ∷ id ∷ []) 5 (omega (arith, tag-low which))) (fits-pseudos 8 row 0 h))
 
   -- an id raises its count, and leaves the other
   count-put : (p c v : ℕ) → c < 6 → getD (set (set row p id) c v) c 0 ≡ v
@@ -65,13 +62,13 @@ module _ (which id : ℕ) (row : List ℕ) (r : length row ≡ 22) (h : rowFits 
   id-fits l = elim (ℕ-discrete which 2) [
     | yes e ↦ let k : getD row 4 0 < 8 = rw (eq-eqb which 2 e) at l in
         rw (eq-eqb which 2 e)
-        (row-fits (set (set row (6 + getD row 4 0) id) 4 (getD row 4 0 + 1)) 0
+        (row-fits 8 (set (set row (6 + getD row 4 0) id) 4 (getD row 4 0 + 1)) 0
         (rw (count-put (6 + getD row 4 0) 4 (getD row 4 0 + 1) (omega arith)) (omega arith))
-        (rw (count-kept (6 + getD row 4 0) 4 5 (getD row 4 0 + 1) (omega arith) (omega arith) (λ q. omega arith)) (fits-pseudos row 0 h)))
+        (rw (count-kept (6 + getD row 4 0) 4 5 (getD row 4 0 + 1) (omega arith) (omega arith) (λ q. omega arith)) (fits-pseudos 8 row 0 h)))
     | no n ↦ let k : getD row 5 0 < 8 = rw (ne-eqb which 2 n) at l in
         rw (ne-eqb which 2 n)
-        (row-fits (set (set row (14 + getD row 5 0) id) 5 (getD row 5 0 + 1)) 0
-        (rw (count-kept (14 + getD row 5 0) 5 4 (getD row 5 0 + 1) (omega arith) (omega arith) (λ q. omega arith)) (fits-classes row 0 h))
+        (row-fits 8 (set (set row (14 + getD row 5 0) id) 5 (getD row 5 0 + 1)) 0
+        (rw (count-kept (14 + getD row 5 0) 5 4 (getD row 5 0 + 1) (omega arith) (omega arith) (λ q. omega arith)) (fits-classes 8 row 0 h))
         (rw (count-put (14 + getD row 5 0) 5 (getD row 5 0 + 1) (omega arith)) (omega arith)))
   ]
 
@@ -133,6 +130,10 @@ module _ (l : List ℕ) (s : ℕ) (room : 22 * s ≤ length l) where
       let z : length (take (22 * s) l) / 22 ≡ s = omega arith in
       rw z (sym (ids-same l (take (22 * s) l) s (λ k h. sym (row-filled k h)) fit))
 
+-- the last of rows that fit does
+last-fits : (l : List ℕ) (s : ℕ) → 1 ≤ s → RowsFit l s → (row : List ℕ) → take 22 (drop (22 * s - 22) l) ≡ row → rowFits 8 row 0 ≡ true
+last-fits l s one fit row e = let z : 22 * (s - 1) ≡ 22 * s - 22 = omega arith in sym (fits-read l (22 * s - 22) row e) ∙ rw z at (fit (s - 1) (omega arith))
+
 -- ---- the last row replaced
 
 take-sets : (n : ℕ) (l : List ℕ) (a : ℕ) (x : List ℕ) → a + length x ≤ n → take n (sets l a x) ≡ sets (take n l) a x
@@ -184,13 +185,10 @@ module _ (l : List ℕ) (s : ℕ) (room : 22 * s ≤ length l) (one : 1 ≤ s) (
 
     -- the ids before, and after
     module _ (row : List ℕ) (e : take 22 (drop (22 * s - 22) l) ≡ row) where
-      row-fit : rowFits 8 row 0 ≡ true
-      row-fit = sym (fits-read l (22 * s - 22) row e) ∙ rw last-place at (fit (s - 1) (omega arith))
-
       ids-before : rowIds l s ≡ rowIds l (s - 1) + rowIds row 1
       ids-before =
           let z : s ≡ s - 1 + 1 = omega arith in
-          ap (rowIds l) z ∙ ids-last l (s - 1) row (rw last-place e) row-fit
+          ap (rowIds l) z ∙ ids-last l (s - 1) row (rw last-place e) (last-fits l s one fit row e)
 
       ids-after : rowIds replaced s ≡ rowIds l (s - 1) + rowIds x 1
       ids-after =
@@ -265,7 +263,7 @@ module _ (f : Filled) (m : Group) (s : Sound f m) where
       row-last = e ∙ sym (last-row (m .steps) (f .steps) steps-room step-there)
 
       pub row-sound : rowFits 8 row 0 ≡ true
-      row-sound = rw row-last (s .row)
+      row-sound = last-fits (m .steps) (f .steps) step-there (s .rows) row (sym e)
 
       row-size : length row ≡ 22
       row-size = ap length e ∙ last-size
@@ -279,7 +277,7 @@ module _ (f : Filled) (m : Group) (s : Sound f m) where
       module _ (w : List ℕ) (which id : ℕ) (k : which ≤ 3) (r : Taken) where
         -- over its size
         pub item-refused : itemOver 8 which row ≡ true → r ≡ record { verdict = 2; filled = f }
-            → Adds (firstOf (requirementFaults w (openOf f m) which id)) (openOf f m) (inGroup (withRequirement which id) (openOf f m)) r m
+            → Adds (firstOf (requirementFaults w (openOf f m) which id)) f m (inGroup (withRequirement which id) (openOf f m)) r m
         item-refused o t =
             adds-refused s
             (first-pass 10 2 (not (inStep (openOf f m))) _ _ refl (rw i)
@@ -316,9 +314,6 @@ module _ (f : Filled) (m : Group) (s : Sound f m) where
         changed-rows : RowsFit (sets (m .steps) (22 * f .steps - 22) x) (f .steps)
         changed-rows = put-fits (m .steps) (f .steps) steps-room step-there x put-size (s .rows) put-sound
 
-        changed-last : lastRow (filledOf f changed) ≡ x
-        changed-last = last-row (sets (m .steps) (22 * f .steps - 22) x) (f .steps) changed-room step-there ∙ row-put (m .steps) (f .steps) steps-room step-there x put-size
-
         module _ (a b : ℕ) (p : Ids row 1 a) (q : Ids x 1 b) where
           ids-after-are : idsGiven (filledOf f changed) ≡ rowIds (sets (m .steps) (22 * f .steps - 22) x) (f .steps)
           unfolding idsGiven
@@ -337,7 +332,7 @@ module _ (f : Filled) (m : Group) (s : Sound f m) where
 
             -- too many ids
             pub ids-refused : 8192 < u + (f .ids - a + b) → r ≡ record { verdict = 2; filled = f }
-                → Adds (firstOf (requirementFaults w (openOf f m) which id)) (openOf f m) (inGroup (withRequirement which id) (openOf f m)) r m
+                → Adds (firstOf (requirementFaults w (openOf f m) which id)) f m (inGroup (withRequirement which id) (openOf f m)) r m
             ids-refused h t =
                 adds-refused s
                 (first-pass 10 2 (not (inStep (openOf f m))) _ _ refl (rw i)
@@ -367,14 +362,13 @@ module _ (f : Filled) (m : Group) (s : Sound f m) where
               last-combinators = s .last-combinators;
               combinators = s .combinators;
               entries = s .entries;
-              row = ap (λ t. rowFits 8 t 0) changed-last ∙ put-sound;
               rows = changed-rows;
               ids = ids-sum;
               ids-fit = omega arith;
             }
 
             pub required : u + (f .ids - a + b) ≤ 8192 → r ≡ record { verdict = 0; filled = counted } → (l : List ℕ) → l ≡ sets (m .steps) (22 * f .steps - 22) x
-                → Adds (firstOf (requirementFaults w (openOf f m) which id)) (openOf f m) (inGroup (withRequirement which id) (openOf f m)) r
+                → Adds (firstOf (requirementFaults w (openOf f m) which id)) f m (inGroup (withRequirement which id) (openOf f m)) r
                 (given (m .rules) l (m .combinators) (m .properties) (m .kinds) (m .numbers))
             required h t l z =
                 rw z
@@ -383,7 +377,7 @@ module _ (f : Filled) (m : Group) (s : Sound f m) where
                 (first-pass 10 0 (ltb 3 which) _ _ refl (le-ltb 3 which k)
                 (first-pass 2 0 (itemOver 8 which row) _ _ (rw (open-group f m step-kind, row-last)) o
                 (first-pass 2 0 (ltb 8192 (u + (f .ids - a + b))) _ _ last-test (le-ltb 8192 (u + (f .ids - a + b)) h) first-end))))
-                (open-group counted changed step-kind ∙ rw (open-group f m step-kind) (ap (rules (f .origin)) changed-is))
+                (open-group counted changed step-kind ∙ rw (open-group f m step-kind) (ap (group (f .origin)) changed-is))
                 t)
 
 -- ---- without a step, or of no such kind
@@ -391,11 +385,11 @@ module _ (f : Filled) (m : Group) (s : Sound f m) where
 module _ (f : Filled) (m : Group) (s : Sound f m) (w : List ℕ) (which id : ℕ) (r : Taken) (b : Bool)
     (e : b ≡ (eqb (f .kind) 2 && (ltb 0 (f .rules) && ltb 0 (getD (m .rules) (3 * f .rules - 3) 0)))) where
   pub stepless : b ≡ false → r ≡ record { verdict = 10; filled = f }
-      → Adds (firstOf (requirementFaults w (openOf f m) which id)) (openOf f m) (inGroup (withRequirement which id) (openOf f m)) r m
+      → Adds (firstOf (requirementFaults w (openOf f m) which id)) f m (inGroup (withRequirement which id) (openOf f m)) r m
   stepless h t = adds-refused s (first-hit 10 (not (inStep (openOf f m))) _ _ refl (rw (← step-tested f m s b e, h))) (omega arith) t
 
   pub which-refused : b ≡ true → 3 < which → r ≡ record { verdict = 10; filled = f }
-      → Adds (firstOf (requirementFaults w (openOf f m) which id)) (openOf f m) (inGroup (withRequirement which id) (openOf f m)) r m
+      → Adds (firstOf (requirementFaults w (openOf f m) which id)) f m (inGroup (withRequirement which id) (openOf f m)) r m
   which-refused h k t =
       adds-refused s
       (first-pass 10 10 (not (inStep (openOf f m))) _ _ refl (rw (← step-tested f m s b e, h))

@@ -14,7 +14,7 @@ use Rattle.sheet.specs.Layout.{rulesIn}
 use Rattle.given.specs.Given.{Group, given}
 use Rattle.gather.specs.declared.Filled.{Filled}
 use Rattle.gather.specs.declared.Taken.{Taken}
-use Rattle.gather.specs.Opened.{rules, idsGiven, lastOf, withRule}
+use Rattle.gather.specs.Opened.{idsGiven, lastOf, withRule}
 use Rattle.gather.specs.Making.{isGroup, inGroup, ruleFaults}
 use Rattle.gather.specs.Memory.{filledOf, openOf, Sound, Adds}
 use Rattle.gather.proofs.Filling.{rules-grown, last-new, steps-few}
@@ -25,7 +25,7 @@ module _ (w : List ℕ) (f : Filled) (r s c p k n : List ℕ) (h : Sound f (give
   lent = given r s c p k n
 
   pub rule-outside : (f .kind ≡ 2 → ⊥) → t ≡ record { verdict = 10; filled = f }
-      → Adds (firstOf (ruleFaults w (openOf f lent))) (openOf f lent) (inGroup withRule (openOf f lent)) t lent
+      → Adds (firstOf (ruleFaults w (openOf f lent))) f lent (inGroup withRule (openOf f lent)) t lent
   rule-outside g e = adds-refused h (first-hit 10 true (not (isGroup (openOf f lent))) _ (rw (not-group f lent h g)) refl) (omega arith) e
 
   module _ (g : f .kind ≡ 2) where
@@ -34,7 +34,7 @@ module _ (w : List ℕ) (f : Filled) (r s c p k n : List ℕ) (h : Sound f (give
 
     -- the sheet's count of rules, as it was read
     pub rule-over : (a b : ℕ) → a ≡ b → b ≡ rulesIn w → 256 ≤ a + f .rules → t ≡ record { verdict = 2; filled = f }
-        → Adds (firstOf (ruleFaults w (openOf f lent))) (openOf f lent) (inGroup withRule (openOf f lent)) t lent
+        → Adds (firstOf (ruleFaults w (openOf f lent))) f lent (inGroup withRule (openOf f lent)) t lent
     rule-over a b i j l e = adds-refused h (rule-limit true (lt-ltb 256 (rulesIn w + f .rules + 1) (omega arith)) 2 (first-hit 2 true true [] refl refl)) (omega arith) e
 
     abbrev grown : Filled
@@ -72,7 +72,6 @@ module _ (w : List ℕ) (f : Filled) (r s c p k n : List ℕ) (h : Sound f (give
         last-combinators = omega (arith, last-zero, last-one);
         combinators = h .combinators;
         entries = h .entries;
-        row = h .row;
         rows = h .rows;
         ids = h .ids;
         ids-fit = h .ids-fit;
@@ -83,10 +82,10 @@ module _ (w : List ℕ) (f : Filled) (r s c p k n : List ℕ) (h : Sound f (give
       rule-opens = rw (open-group grown lent′ g, open-group f lent g, filled-more)
 
       added : (r′ : List ℕ) → r′ ≡ sets r (3 * f .rules) (0 ∷ 0 ∷ 0 ∷ []) → t ≡ record { verdict = 0; filled = grown }
-          → Adds (firstOf (ruleFaults w (openOf f lent))) (openOf f lent) (inGroup withRule (openOf f lent)) t (given r′ s c p k n)
+          → Adds (firstOf (ruleFaults w (openOf f lent))) f lent (inGroup withRule (openOf f lent)) t (given r′ s c p k n)
       added r′ q e =
           rw q (adds-accepted rule-sound (rule-limit false (le-ltb 256 (rulesIn w + f .rules + 1) (omega arith)) 0 (first-pass 2 0 false false [] refl refl first-end)) rule-opens e)
 
     pub rule-added : (a b : ℕ) → a ≡ b → b ≡ rulesIn w → a + f .rules < 256 → (r′ : List ℕ) → r′ ≡ sets r (3 * f .rules) (0 ∷ 0 ∷ 0 ∷ []) → t ≡ record { verdict = 0; filled = grown }
-        → Adds (firstOf (ruleFaults w (openOf f lent))) (openOf f lent) (inGroup withRule (openOf f lent)) t (given r′ s c p k n)
+        → Adds (firstOf (ruleFaults w (openOf f lent))) f lent (inGroup withRule (openOf f lent)) t (given r′ s c p k n)
     rule-added a b i j l r′ q e = added (omega arith) r′ q e

@@ -21,10 +21,10 @@ use Rattle.given.specs.Given.{Group, given}
 use Rattle.records.specs.Rows.{emptyRow}
 use Rattle.gather.specs.declared.Filled.{Filled}
 use Rattle.gather.specs.declared.Taken.{Taken}
-use Rattle.gather.specs.Opened.{rules, ruleCount, idsGiven, lastOf, oneMore, withStep}
+use Rattle.gather.specs.Opened.{ruleCount, idsGiven, lastOf, oneMore, withStep}
 use Rattle.gather.specs.Making.{inRule, inGroup, stepFaults}
 use Rattle.gather.specs.Memory.{filledOf, openOf, Sound, Adds}
-use Rattle.gather.proofs.Filling.{steps-grown, one-grown, last, last-in, last-more, last-kept, take-more, last-row-new}
+use Rattle.gather.proofs.Filling.{steps-grown, one-grown, last, last-in, last-more, last-kept, take-more}
 use Rattle.gather.proofs.Ids.{ids-empty}
 use Rattle.gather.proofs.Opening.{open-group, adds-refused, adds-accepted, rules-counted, filled-rules, not-group}
 
@@ -52,9 +52,6 @@ module _ (s : List ℕ) (n : ℕ) (h : 22 * (n + 1) ≤ length s) (fit : (j : �
           b,
         )
   ]
-
-  new-row : rowFits 8 (drop (length (take (22 * (n + 1)) (sets s (22 * n) (emptyRow 8))) - 22) (take (22 * (n + 1)) (sets s (22 * n) (emptyRow 8)))) 0 ≡ true
-  new-row = rw (steps-grown s n h, last-row-new (take (22 * n) s))
 
   -- and it holds no id
   new-ids : idsHeld (selectorOf (take (22 * (n + 1)) (sets s (22 * n) (emptyRow 8))) [] (length (take (22 * (n + 1)) (sets s (22 * n) (emptyRow 8))) / 22))
@@ -84,12 +81,12 @@ module _ (f : Filled) (r s c p k n : List ℕ) (h : Sound f (given r s c p k n))
 
   module _ (code : ℕ) (t : Taken) where
     pub step-no-group : (f .kind ≡ 2 → ⊥) → t ≡ record { verdict = 10; filled = f }
-        → Adds (firstOf (stepFaults (openOf f lent) code)) (openOf f lent) (inGroup (withStep code) (openOf f lent)) t lent
+        → Adds (firstOf (stepFaults (openOf f lent) code)) f lent (inGroup (withStep code) (openOf f lent)) t lent
     step-no-group g e =
         adds-refused h (first-hit 10 true (not (inRule (openOf f lent))) _ (rw (not-group f lent h g)) refl) (omega arith) e
 
     pub step-no-rule : f .kind ≡ 2 → f .rules ≡ 0 → t ≡ record { verdict = 10; filled = f }
-        → Adds (firstOf (stepFaults (openOf f lent) code)) (openOf f lent) (inGroup (withStep code) (openOf f lent)) t lent
+        → Adds (firstOf (stepFaults (openOf f lent) code)) f lent (inGroup (withStep code) (openOf f lent)) t lent
     step-no-rule g z e =
         adds-refused h (first-hit 10 true (not (inRule (openOf f lent))) _ (rw (open-group f lent g, rules-counted f lent h, z)) refl) (omega arith) e
 
@@ -171,7 +168,6 @@ module _ (f : Filled) (r s c p k n : List ℕ) (h : Sound f (given r s c p k n))
         last-combinators = omega (arith, x, y);
         combinators = d;
         entries = h .entries;
-        row = new-row s (f .steps) steps-room (h .rows);
         rows = new-fits s (f .steps) steps-room (h .rows);
         ids = h .ids ∙ sym (new-ids s (f .steps) steps-room (h .rows));
         ids-fit = h .ids-fit;
@@ -192,16 +188,16 @@ module _ (f : Filled) (r s c p k n : List ℕ) (h : Sound f (given r s c p k n))
           (first-pass 10 v false (not (ltb 0 (ruleCount (filledOf f lent)))) _ (rw (rules-counted f lent h, lt-ltb 0 (f .rules) u)) refl (rw (x, y) q))
 
       pub step-first-code : before ≡ 0 → 0 < code → t ≡ record { verdict = 10; filled = f }
-          → Adds (firstOf (stepFaults (openOf f lent) code)) (openOf f lent) (inGroup (withStep code) (openOf f lent)) t lent
+          → Adds (firstOf (stepFaults (openOf f lent) code)) f lent (inGroup (withStep code) (openOf f lent)) t lent
       step-first-code z l e = adds-refused h (step-limits true _ 10 (rw z (lt-ltb 0 code l)) refl (first-hit 10 true true _ refl refl)) (omega arith) e
 
       pub step-later-code : (b : ℕ) → b ≡ before → 1 ≤ b → 1 < code → t ≡ record { verdict = 10; filled = f }
-          → Adds (firstOf (stepFaults (openOf f lent) code)) (openOf f lent) (inGroup (withStep code) (openOf f lent)) t lent
+          → Adds (firstOf (stepFaults (openOf f lent) code)) f lent (inGroup (withStep code) (openOf f lent)) t lent
       step-later-code b a z l e =
           adds-refused h (step-limits true _ 10 (rw (ne-eqb before 0 (λ x. omega arith)) (lt-ltb 1 code l)) refl (first-hit 10 true true _ refl refl)) (omega arith) e
 
       pub step-over : (b : ℕ) → b ≡ before → code ≤ 1 → 8 ≤ b → t ≡ record { verdict = 2; filled = f }
-          → Adds (firstOf (stepFaults (openOf f lent) code)) (openOf f lent) (inGroup (withStep code) (openOf f lent)) t lent
+          → Adds (firstOf (stepFaults (openOf f lent) code)) f lent (inGroup (withStep code) (openOf f lent)) t lent
       step-over b a z l e =
           adds-refused h
           (step-limits false true 2 (rw (ne-eqb before 0 (λ x. omega arith)) (le-ltb 1 code z)) (lt-ltb 8 (before + 1) (omega arith))
@@ -210,7 +206,7 @@ module _ (f : Filled) (r s c p k n : List ℕ) (h : Sound f (given r s c p k n))
 
       pub step-first : before ≡ 0 → code ≤ 0 → (r′ s′ : List ℕ) → r′ ≡ set r (3 * f .rules - 3) 1 → s′ ≡ sets s (22 * f .steps) (emptyRow 8)
           → t ≡ record { verdict = 0; filled = grown (f .combinators) }
-          → Adds (firstOf (stepFaults (openOf f lent) code)) (openOf f lent) (inGroup (withStep code) (openOf f lent)) t (given r′ s′ c p k n)
+          → Adds (firstOf (stepFaults (openOf f lent) code)) f lent (inGroup (withStep code) (openOf f lent)) t (given r′ s′ c p k n)
       unfolding withStep
       step-first z l r′ s′ q x e =
           let y : r′ ≡ set r (3 * f .rules - 3) (before + 1) = q ∙ sym (ap (λ b. set r (3 * f .rules - 3) (b + 1)) z) in
@@ -229,7 +225,7 @@ module _ (f : Filled) (r s c p k n : List ℕ) (h : Sound f (given r s c p k n))
           → s′ ≡ sets s (22 * f .steps) (emptyRow 8)
           → c′ ≡ set c (f .combinators) code
           → t ≡ record { verdict = 0; filled = grown (f .combinators + 1) }
-          → Adds (firstOf (stepFaults (openOf f lent) code)) (openOf f lent) (inGroup (withStep code) (openOf f lent)) t (given r″ s′ c′ p k n)
+          → Adds (firstOf (stepFaults (openOf f lent) code)) f lent (inGroup (withStep code) (openOf f lent)) t (given r″ s′ c′ p k n)
       unfolding withStep
       step-later b a z l few v r′ r″ s′ c′ q d q′ x w e =
           let y : r′ ≡ set r (3 * f .rules - 3) (before + 1) = q ∙ ap (λ j. set r (3 * f .rules - 3) (j + 1)) a in

@@ -10,24 +10,24 @@ use Rattle.given.specs.Given.{Group}
 use Rattle.given.specs.Pushing.{allEntriesIn}
 use Rattle.records.specs.declared.Record.{Record}
 use Rattle.records.specs.Rows.{itemOver}
-use Rattle.gather.specs.Opened.{Open, nothing, direct, rules, none, ruleCount, entriesGiven, idsGiven, lastOf, lastRow, withRule, withStep, withRequirement, withEntry, closeVerdict, closed}
+use Rattle.gather.specs.Opened.{Open, nothing, direct, group, none, ruleCount, entriesGiven, idsGiven, lastOf, lastRow, withRule, withStep, withRequirement, withEntry, closeVerdict, closed}
 
 -- ---- what is open
 
 abbrev pub isDirect : Open → Bool
 isDirect nothing = false
 isDirect (direct o g) = true
-isDirect (rules o g) = false
+isDirect (group o g) = false
 
 abbrev pub isGroup : Open → Bool
 isGroup nothing = false
 isGroup (direct o g) = false
-isGroup (rules o g) = true
+isGroup (group o g) = true
 
 abbrev pub groupOf : Open → Group
 groupOf nothing = none
 groupOf (direct o g) = g
-groupOf (rules o g) = g
+groupOf (group o g) = g
 
 abbrev pub inRule : Open → Bool
 inRule o = isGroup o && ltb 0 (ruleCount (groupOf o))
@@ -120,7 +120,7 @@ sheetAfter w o r = cond (closes r) (closed w o) w
 abbrev pub inGroup : (Group → Group) → Open → Open
 inGroup f nothing = nothing
 inGroup f (direct o g) = direct o g
-inGroup f (rules o g) = rules o (f g)
+inGroup f (group o g) = group o (f g)
 
 unfoldable pub addedTo : Open → Record → Open
 addedTo o r =
@@ -133,6 +133,6 @@ addedTo o r =
 unfoldable pub openAfter : Open → Record → Open
 openAfter o r =
     cond (eqb (r .kind) 2) (direct (r .first) none)
-    (cond (eqb (r .kind) 3) (rules (r .first) none)
+    (cond (eqb (r .kind) 3) (group (r .first) none)
     (cond (eqb (r .kind) 8) nothing
     (addedTo o r)))

@@ -11,8 +11,8 @@ use Rattle.given.specs.Given.{Group, given}
 use Rattle.records.specs.declared.Record.{Record}
 use Rattle.gather.specs.declared.Filled.{Filled}
 use Rattle.gather.specs.declared.Taken.{Taken}
-use Rattle.gather.specs.Opened.{Open, nothing, direct, rules, idsGiven, lastOf, lastRow}
-use Rattle.gather.specs.Making.{makingVerdict, sheetAfter, openAfter}
+use Rattle.gather.specs.Opened.{Open, nothing, direct, group, idsGiven, lastOf, closed}
+use Rattle.gather.specs.Making.{closingVerdict, makingVerdict, sheetAfter, openAfter}
 
 -- The lists as far as they are filled; `m` are the lent ones
 abbrev pub filledOf : Filled → Group → Group
@@ -27,7 +27,7 @@ filledOf f m =
 
 -- what is open: nothing (0), a direct style (1), a group (2)
 unfoldable pub openOf : Filled → Group → Open
-openOf f m = cond (eqb (f .kind) 0) nothing (cond (eqb (f .kind) 1) (direct (f .origin) (filledOf f m)) (rules (f .origin) (filledOf f m)))
+openOf f m = cond (eqb (f .kind) 0) nothing (cond (eqb (f .kind) 1) (direct (f .origin) (filledOf f m)) (group (f .origin) (filledOf f m)))
 
 -- the lent lists have room for whatever is accepted
 pub record Roomy (m : Group) : Type 0 where
@@ -49,7 +49,6 @@ pub record Sound (f : Filled) (m : Group) : Type 0 where
   pub last-combinators : lastOf (filledOf f m) 1 ≤ lastOf (filledOf f m) 0
   pub combinators : f .combinators ≤ f .steps
   pub entries : f .entries ≤ 4096
-  pub row : rowFits 8 (lastRow (filledOf f m)) 0 ≡ true
   pub rows : (k : ℕ) → k < f .steps → rowFits 8 (m .steps) (22 * k) ≡ true
   pub ids : f .ids ≡ idsGiven (filledOf f m)
   pub ids-fit : f .ids ≤ 8192
@@ -57,23 +56,26 @@ pub record Sound (f : Filled) (m : Group) : Type 0 where
 -- ---- one record: the refusal's number, 0 for none, and what is open then. A refused one changes nothing
 
 -- of a kind that only adds to what is open
-pub record Adds (fault : ℕ) (before after : Open) (r : Taken) (m′ : Group) : Type 0 where
+pub record Adds (fault : ℕ) (f : Filled) (m : Group) (after : Open) (r : Taken) (m′ : Group) : Type 0 where
   pub answer : r .verdict ≡ fault
-  pub opens : openOf (r .filled) m′ ≡ cond (eqb fault 0) after before
+  pub opens : r .verdict ≡ 0 → openOf (r .filled) m′ ≡ after
+  pub keeps : (r .verdict ≡ 0 → ⊥) → (r .filled ≡ f) × (m′ ≡ m)
   pub sound : Sound (r .filled) m′
 
--- of a kind that closes what is open, too: with the sheet's words
-pub record Closes (verdict : ℕ) (w pushed : List ℕ) (before after : Open) (r : Taken) (w′ : List ℕ) (m : Group) : Type 0 where
-  pub answer : r .verdict ≡ verdict
-  pub sheet : w′ ≡ cond (eqb verdict 0) pushed w
-  pub opens : openOf (r .filled) m ≡ cond (eqb verdict 0) after before
+-- of a kind that closes what is open, too: with the sheet's words; the lent lists are only read
+pub record Closes (fault : ℕ) (w : List ℕ) (f : Filled) (m : Group) (after : Open) (r : Taken) (w′ : List ℕ) : Type 0 where
+  pub answer : r .verdict ≡ closingVerdict fault w (openOf f m)
+  pub sheet : w′ ≡ cond (eqb (closingVerdict fault w (openOf f m)) 0) (closed w (openOf f m)) w
+  pub opens : r .verdict ≡ 0 → openOf (r .filled) m ≡ after
+  pub keeps : (r .verdict ≡ 0 → ⊥) → r .filled ≡ f
   pub sound : Sound (r .filled) m
   pub shape : sheetShape w′ ≡ true
 
 -- of any kind
-pub record Takes (w : List ℕ) (before : Open) (r : Record) (taken : Taken) (w′ : List ℕ) (m′ : Group) : Type 0 where
-  pub answer : taken .verdict ≡ makingVerdict w before r
-  pub sheet : w′ ≡ cond (eqb (makingVerdict w before r) 0) (sheetAfter w before r) w
-  pub opens : openOf (taken .filled) m′ ≡ cond (eqb (makingVerdict w before r) 0) (openAfter before r) before
+pub record Takes (w : List ℕ) (f : Filled) (m : Group) (r : Record) (taken : Taken) (w′ : List ℕ) (m′ : Group) : Type 0 where
+  pub answer : taken .verdict ≡ makingVerdict w (openOf f m) r
+  pub sheet : w′ ≡ cond (eqb (makingVerdict w (openOf f m) r) 0) (sheetAfter w (openOf f m) r) w
+  pub opens : taken .verdict ≡ 0 → openOf (taken .filled) m′ ≡ openAfter (openOf f m) r
+  pub keeps : (taken .verdict ≡ 0 → ⊥) → (taken .filled ≡ f) × (m′ ≡ m)
   pub sound : Sound (taken .filled) m′
   pub shape : sheetShape w′ ≡ true

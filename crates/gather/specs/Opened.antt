@@ -15,7 +15,7 @@ use Rattle.records.specs.Rows.{emptyRow, withItem}
 pub data Open : Type 0 where
   nothing : Open
   direct : ℕ → Group → Open
-  rules : ℕ → Group → Open
+  group : ℕ → Group → Open
 
 abbrev pub none : Group
 none = given [] [] [] [] [] []
@@ -72,16 +72,16 @@ withEntryIn counts property kind number g =
 unfoldable pub withEntry : ℕ → ℕ → ℕ → Open → Open
 withEntry property kind number nothing = nothing
 withEntry property kind number (direct origin g) = direct origin (withEntryIn (g .rules) property kind number g)
-withEntry property kind number (rules origin g) = rules origin (withEntryIn (oneMore 2 (g .rules)) property kind number g)
+withEntry property kind number (group origin g) = group origin (withEntryIn (oneMore 2 (g .rules)) property kind number g)
 
 -- ---- "the style or group that a 2, 3 or 8 closes is pushed, or refused there"
 
 unfoldable pub closeVerdict : List ℕ → Open → ℕ
 closeVerdict w nothing = 0
 closeVerdict w (direct origin g) = stylePushVerdict w origin (g .properties) (g .kinds) (g .numbers) (entriesGiven g)
-closeVerdict w (rules origin g) = groupVerdict w origin g (ruleCount g)
+closeVerdict w (group origin g) = groupVerdict w origin g (ruleCount g)
 
 unfoldable pub closed : List ℕ → Open → List ℕ
 closed w nothing = w
 closed w (direct origin g) = pushedStyle w origin (g .properties) (g .kinds) (g .numbers) (entriesGiven g)
-closed w (rules origin g) = pushedGroup w origin g (ruleCount g)
+closed w (group origin g) = pushedGroup w origin g (ruleCount g)

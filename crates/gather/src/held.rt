@@ -25,8 +25,7 @@ ghost use Rattle.sheet.specs.Shape.{sheetShape};
 ghost use Rattle.given.specs.Given.{given};
 ghost use Rattle.builder.specs.Answers.{Pushes};
 ghost use Rattle.records.specs.Records.{Narrow};
-ghost use Rattle.gather.specs.Opened;
-ghost use Rattle.gather.specs.Opened.{nothing, direct, none, lastOf, withRule, withStep, withRequirement, withEntry, closeVerdict, closed};
+ghost use Rattle.gather.specs.Opened.{nothing, direct, group, none, lastOf, withRule, withStep, withRequirement, withEntry, closeVerdict, closed};
 ghost use Rattle.gather.specs.Making.{directFaults, groupFaults, ruleFaults, stepFaults, requirementFaults, entryFaults, inStep, inGroup, closingVerdict, addedFault, addedTo};
 ghost use Rattle.gather.specs.Memory.{filledOf, openOf, Sound, Adds, Closes, Takes};
 
@@ -72,7 +71,7 @@ fn take_rule(
 ) -> Taken
     requires { ⌜ sheetShape (now sheet) ≡ true ⌝ }
     requires { ⌜ Sound f (given (now rules) (now steps) (now combinators) (now properties) (now kinds) (now numbers)) ⌝ }
-    ensures { λ r. ⌜ Adds (firstOf (ruleFaults (now (sheet .entry)) (openOf f (given (now (rules .entry)) (now (steps .entry)) (now (combinators .entry)) (now (properties .entry)) (now (kinds .entry)) (now (numbers .entry)))))) (openOf f (given (now (rules .entry)) (now (steps .entry)) (now (combinators .entry)) (now (properties .entry)) (now (kinds .entry)) (now (numbers .entry)))) (inGroup withRule (openOf f (given (now (rules .entry)) (now (steps .entry)) (now (combinators .entry)) (now (properties .entry)) (now (kinds .entry)) (now (numbers .entry))))) r (given (now (rules .exit)) (now (steps .entry)) (now (combinators .entry)) (now (properties .entry)) (now (kinds .entry)) (now (numbers .entry))) ⌝ }
+    ensures { λ r. ⌜ Adds (firstOf (ruleFaults (now (sheet .entry)) (openOf f (given (now (rules .entry)) (now (steps .entry)) (now (combinators .entry)) (now (properties .entry)) (now (kinds .entry)) (now (numbers .entry)))))) f (given (now (rules .entry)) (now (steps .entry)) (now (combinators .entry)) (now (properties .entry)) (now (kinds .entry)) (now (numbers .entry))) (inGroup withRule (openOf f (given (now (rules .entry)) (now (steps .entry)) (now (combinators .entry)) (now (properties .entry)) (now (kinds .entry)) (now (numbers .entry))))) r (given (now (rules .exit)) (now (steps .entry)) (now (combinators .entry)) (now (properties .entry)) (now (kinds .entry)) (now (numbers .entry))) ⌝ }
 {
     if f.kind != 2 {
         return refused(10, f);
@@ -102,7 +101,7 @@ fn take_first_step(
 ) -> Taken
     requires { ⌜ Sound f (given (now rules) (now steps) (now combinators) (now properties) (now kinds) (now numbers)) ⌝ }
     requires { ⌜ (f .kind ≡ 2) × (1 ≤ f .rules) × (lastOf (filledOf f (given (now rules) (now steps) (now combinators) (now properties) (now kinds) (now numbers))) 0 ≡ 0) ⌝ }
-    ensures { λ r. ⌜ Adds (firstOf (stepFaults (openOf f (given (now (rules .entry)) (now (steps .entry)) (now (combinators .entry)) (now (properties .entry)) (now (kinds .entry)) (now (numbers .entry)))) code)) (openOf f (given (now (rules .entry)) (now (steps .entry)) (now (combinators .entry)) (now (properties .entry)) (now (kinds .entry)) (now (numbers .entry)))) (inGroup (withStep code) (openOf f (given (now (rules .entry)) (now (steps .entry)) (now (combinators .entry)) (now (properties .entry)) (now (kinds .entry)) (now (numbers .entry))))) r (given (now (rules .exit)) (now (steps .exit)) (now (combinators .entry)) (now (properties .entry)) (now (kinds .entry)) (now (numbers .entry))) ⌝ }
+    ensures { λ r. ⌜ Adds (firstOf (stepFaults (openOf f (given (now (rules .entry)) (now (steps .entry)) (now (combinators .entry)) (now (properties .entry)) (now (kinds .entry)) (now (numbers .entry)))) code)) f (given (now (rules .entry)) (now (steps .entry)) (now (combinators .entry)) (now (properties .entry)) (now (kinds .entry)) (now (numbers .entry))) (inGroup (withStep code) (openOf f (given (now (rules .entry)) (now (steps .entry)) (now (combinators .entry)) (now (properties .entry)) (now (kinds .entry)) (now (numbers .entry))))) r (given (now (rules .exit)) (now (steps .exit)) (now (combinators .entry)) (now (properties .entry)) (now (kinds .entry)) (now (numbers .entry))) ⌝ }
 {
     if 0 < code {
         return refused(10, f);
@@ -129,7 +128,7 @@ fn take_later_step(
 ) -> Taken
     requires { ⌜ Sound f (given (now rules) (now steps) (now combinators) (now properties) (now kinds) (now numbers)) ⌝ }
     requires { ⌜ (f .kind ≡ 2) × (1 ≤ f .rules) × (n ≡ lastOf (filledOf f (given (now rules) (now steps) (now combinators) (now properties) (now kinds) (now numbers))) 0) × (1 ≤ n) ⌝ }
-    ensures { λ r. ⌜ Adds (firstOf (stepFaults (openOf f (given (now (rules .entry)) (now (steps .entry)) (now (combinators .entry)) (now (properties .entry)) (now (kinds .entry)) (now (numbers .entry)))) code)) (openOf f (given (now (rules .entry)) (now (steps .entry)) (now (combinators .entry)) (now (properties .entry)) (now (kinds .entry)) (now (numbers .entry)))) (inGroup (withStep code) (openOf f (given (now (rules .entry)) (now (steps .entry)) (now (combinators .entry)) (now (properties .entry)) (now (kinds .entry)) (now (numbers .entry))))) r (given (now (rules .exit)) (now (steps .exit)) (now (combinators .exit)) (now (properties .entry)) (now (kinds .entry)) (now (numbers .entry))) ⌝ }
+    ensures { λ r. ⌜ Adds (firstOf (stepFaults (openOf f (given (now (rules .entry)) (now (steps .entry)) (now (combinators .entry)) (now (properties .entry)) (now (kinds .entry)) (now (numbers .entry)))) code)) f (given (now (rules .entry)) (now (steps .entry)) (now (combinators .entry)) (now (properties .entry)) (now (kinds .entry)) (now (numbers .entry))) (inGroup (withStep code) (openOf f (given (now (rules .entry)) (now (steps .entry)) (now (combinators .entry)) (now (properties .entry)) (now (kinds .entry)) (now (numbers .entry))))) r (given (now (rules .exit)) (now (steps .exit)) (now (combinators .exit)) (now (properties .entry)) (now (kinds .entry)) (now (numbers .entry))) ⌝ }
 {
     if 1 < code {
         return refused(10, f);
@@ -160,7 +159,7 @@ fn take_step(
     code: u32,
 ) -> Taken
     requires { ⌜ Sound f (given (now rules) (now steps) (now combinators) (now properties) (now kinds) (now numbers)) ⌝ }
-    ensures { λ r. ⌜ Adds (firstOf (stepFaults (openOf f (given (now (rules .entry)) (now (steps .entry)) (now (combinators .entry)) (now (properties .entry)) (now (kinds .entry)) (now (numbers .entry)))) code)) (openOf f (given (now (rules .entry)) (now (steps .entry)) (now (combinators .entry)) (now (properties .entry)) (now (kinds .entry)) (now (numbers .entry)))) (inGroup (withStep code) (openOf f (given (now (rules .entry)) (now (steps .entry)) (now (combinators .entry)) (now (properties .entry)) (now (kinds .entry)) (now (numbers .entry))))) r (given (now (rules .exit)) (now (steps .exit)) (now (combinators .exit)) (now (properties .entry)) (now (kinds .entry)) (now (numbers .entry))) ⌝ }
+    ensures { λ r. ⌜ Adds (firstOf (stepFaults (openOf f (given (now (rules .entry)) (now (steps .entry)) (now (combinators .entry)) (now (properties .entry)) (now (kinds .entry)) (now (numbers .entry)))) code)) f (given (now (rules .entry)) (now (steps .entry)) (now (combinators .entry)) (now (properties .entry)) (now (kinds .entry)) (now (numbers .entry))) (inGroup (withStep code) (openOf f (given (now (rules .entry)) (now (steps .entry)) (now (combinators .entry)) (now (properties .entry)) (now (kinds .entry)) (now (numbers .entry))))) r (given (now (rules .exit)) (now (steps .exit)) (now (combinators .exit)) (now (properties .entry)) (now (kinds .entry)) (now (numbers .entry))) ⌝ }
 {
     if f.kind != 2 {
         return refused(10, f);
@@ -226,7 +225,7 @@ fn put_requirement(
     requires { ⌜ sheetShape (now sheet) ≡ true ⌝ }
     requires { ⌜ Sound f (given (now rules) (now steps) (now combinators) (now properties) (now kinds) (now numbers)) ⌝ }
     requires { ⌜ (inStep (openOf f (given (now rules) (now steps) (now combinators) (now properties) (now kinds) (now numbers))) ≡ true) × (which ≤ 3) ⌝ }
-    ensures { λ r. ⌜ Adds (firstOf (requirementFaults (now (sheet .entry)) (openOf f (given (now (rules .entry)) (now (steps .entry)) (now (combinators .entry)) (now (properties .entry)) (now (kinds .entry)) (now (numbers .entry)))) which id)) (openOf f (given (now (rules .entry)) (now (steps .entry)) (now (combinators .entry)) (now (properties .entry)) (now (kinds .entry)) (now (numbers .entry)))) (inGroup (withRequirement which id) (openOf f (given (now (rules .entry)) (now (steps .entry)) (now (combinators .entry)) (now (properties .entry)) (now (kinds .entry)) (now (numbers .entry))))) r (given (now (rules .entry)) (now (steps .exit)) (now (combinators .entry)) (now (properties .entry)) (now (kinds .entry)) (now (numbers .entry))) ⌝ }
+    ensures { λ r. ⌜ Adds (firstOf (requirementFaults (now (sheet .entry)) (openOf f (given (now (rules .entry)) (now (steps .entry)) (now (combinators .entry)) (now (properties .entry)) (now (kinds .entry)) (now (numbers .entry)))) which id)) f (given (now (rules .entry)) (now (steps .entry)) (now (combinators .entry)) (now (properties .entry)) (now (kinds .entry)) (now (numbers .entry))) (inGroup (withRequirement which id) (openOf f (given (now (rules .entry)) (now (steps .entry)) (now (combinators .entry)) (now (properties .entry)) (now (kinds .entry)) (now (numbers .entry))))) r (given (now (rules .entry)) (now (steps .exit)) (now (combinators .entry)) (now (properties .entry)) (now (kinds .entry)) (now (numbers .entry))) ⌝ }
 {
     let at = 22 * f.steps - 22;
     let mut row = [0u32; 22];
@@ -258,7 +257,7 @@ fn take_requirement(
 ) -> Taken
     requires { ⌜ sheetShape (now sheet) ≡ true ⌝ }
     requires { ⌜ Sound f (given (now rules) (now steps) (now combinators) (now properties) (now kinds) (now numbers)) ⌝ }
-    ensures { λ r. ⌜ Adds (firstOf (requirementFaults (now (sheet .entry)) (openOf f (given (now (rules .entry)) (now (steps .entry)) (now (combinators .entry)) (now (properties .entry)) (now (kinds .entry)) (now (numbers .entry)))) which id)) (openOf f (given (now (rules .entry)) (now (steps .entry)) (now (combinators .entry)) (now (properties .entry)) (now (kinds .entry)) (now (numbers .entry)))) (inGroup (withRequirement which id) (openOf f (given (now (rules .entry)) (now (steps .entry)) (now (combinators .entry)) (now (properties .entry)) (now (kinds .entry)) (now (numbers .entry))))) r (given (now (rules .entry)) (now (steps .exit)) (now (combinators .entry)) (now (properties .entry)) (now (kinds .entry)) (now (numbers .entry))) ⌝ }
+    ensures { λ r. ⌜ Adds (firstOf (requirementFaults (now (sheet .entry)) (openOf f (given (now (rules .entry)) (now (steps .entry)) (now (combinators .entry)) (now (properties .entry)) (now (kinds .entry)) (now (numbers .entry)))) which id)) f (given (now (rules .entry)) (now (steps .entry)) (now (combinators .entry)) (now (properties .entry)) (now (kinds .entry)) (now (numbers .entry))) (inGroup (withRequirement which id) (openOf f (given (now (rules .entry)) (now (steps .entry)) (now (combinators .entry)) (now (properties .entry)) (now (kinds .entry)) (now (numbers .entry))))) r (given (now (rules .entry)) (now (steps .exit)) (now (combinators .entry)) (now (properties .entry)) (now (kinds .entry)) (now (numbers .entry))) ⌝ }
 {
     if !in_step(f, rules) {
         return refused(10, f);
@@ -342,7 +341,7 @@ fn put_entry(
     requires { ⌜ Sound f (given (now rules) (now steps) (now combinators) (now properties) (now kinds) (now numbers)) ⌝ }
     requires { ⌜ (property < 65536) × (kind ≤ 3) × (f .entries < 4096) ⌝ }
     requires { ⌜ (firstOf (entryFaults (now sheet) (openOf f (given (now rules) (now steps) (now combinators) (now properties) (now kinds) (now numbers))) kind) ≡ 0) ⌝ }
-    ensures { λ r. ⌜ Adds (firstOf (entryFaults (now (sheet .entry)) (openOf f (given (now (rules .entry)) (now (steps .entry)) (now (combinators .entry)) (now (properties .entry)) (now (kinds .entry)) (now (numbers .entry)))) kind)) (openOf f (given (now (rules .entry)) (now (steps .entry)) (now (combinators .entry)) (now (properties .entry)) (now (kinds .entry)) (now (numbers .entry)))) (withEntry property kind number (openOf f (given (now (rules .entry)) (now (steps .entry)) (now (combinators .entry)) (now (properties .entry)) (now (kinds .entry)) (now (numbers .entry))))) r (given (now (rules .exit)) (now (steps .entry)) (now (combinators .entry)) (now (properties .exit)) (now (kinds .exit)) (now (numbers .exit))) ⌝ }
+    ensures { λ r. ⌜ Adds (firstOf (entryFaults (now (sheet .entry)) (openOf f (given (now (rules .entry)) (now (steps .entry)) (now (combinators .entry)) (now (properties .entry)) (now (kinds .entry)) (now (numbers .entry)))) kind)) f (given (now (rules .entry)) (now (steps .entry)) (now (combinators .entry)) (now (properties .entry)) (now (kinds .entry)) (now (numbers .entry))) (withEntry property kind number (openOf f (given (now (rules .entry)) (now (steps .entry)) (now (combinators .entry)) (now (properties .entry)) (now (kinds .entry)) (now (numbers .entry))))) r (given (now (rules .exit)) (now (steps .entry)) (now (combinators .entry)) (now (properties .exit)) (now (kinds .exit)) (now (numbers .exit))) ⌝ }
 {
     count_entry(f, rules);
     let at = f.entries;
@@ -371,7 +370,7 @@ fn take_entry(
     requires { ⌜ sheetShape (now sheet) ≡ true ⌝ }
     requires { ⌜ Sound f (given (now rules) (now steps) (now combinators) (now properties) (now kinds) (now numbers)) ⌝ }
     requires { ⌜ property < 65536 ⌝ }
-    ensures { λ r. ⌜ Adds (firstOf (entryFaults (now (sheet .entry)) (openOf f (given (now (rules .entry)) (now (steps .entry)) (now (combinators .entry)) (now (properties .entry)) (now (kinds .entry)) (now (numbers .entry)))) kind)) (openOf f (given (now (rules .entry)) (now (steps .entry)) (now (combinators .entry)) (now (properties .entry)) (now (kinds .entry)) (now (numbers .entry)))) (withEntry property kind number (openOf f (given (now (rules .entry)) (now (steps .entry)) (now (combinators .entry)) (now (properties .entry)) (now (kinds .entry)) (now (numbers .entry))))) r (given (now (rules .exit)) (now (steps .entry)) (now (combinators .entry)) (now (properties .exit)) (now (kinds .exit)) (now (numbers .exit))) ⌝ }
+    ensures { λ r. ⌜ Adds (firstOf (entryFaults (now (sheet .entry)) (openOf f (given (now (rules .entry)) (now (steps .entry)) (now (combinators .entry)) (now (properties .entry)) (now (kinds .entry)) (now (numbers .entry)))) kind)) f (given (now (rules .entry)) (now (steps .entry)) (now (combinators .entry)) (now (properties .entry)) (now (kinds .entry)) (now (numbers .entry))) (withEntry property kind number (openOf f (given (now (rules .entry)) (now (steps .entry)) (now (combinators .entry)) (now (properties .entry)) (now (kinds .entry)) (now (numbers .entry))))) r (given (now (rules .exit)) (now (steps .entry)) (now (combinators .entry)) (now (properties .exit)) (now (kinds .exit)) (now (numbers .exit))) ⌝ }
 {
     if !in_style(f) {
         return refused(10, f);
@@ -519,7 +518,7 @@ fn take_direct(
 ) -> Taken
     requires { ⌜ sheetShape (now sheet) ≡ true ⌝ }
     requires { ⌜ Sound f (given (now rules) (now steps) (now combinators) (now properties) (now kinds) (now numbers)) ⌝ }
-    ensures { λ r. ⌜ Closes (closingVerdict (firstOf (directFaults (now (sheet .entry)) (openOf f (given (now (rules .entry)) (now (steps .entry)) (now (combinators .entry)) (now (properties .entry)) (now (kinds .entry)) (now (numbers .entry)))) origin)) (now (sheet .entry)) (openOf f (given (now (rules .entry)) (now (steps .entry)) (now (combinators .entry)) (now (properties .entry)) (now (kinds .entry)) (now (numbers .entry))))) (now (sheet .entry)) (closed (now (sheet .entry)) (openOf f (given (now (rules .entry)) (now (steps .entry)) (now (combinators .entry)) (now (properties .entry)) (now (kinds .entry)) (now (numbers .entry))))) (openOf f (given (now (rules .entry)) (now (steps .entry)) (now (combinators .entry)) (now (properties .entry)) (now (kinds .entry)) (now (numbers .entry)))) (direct origin none) r (now (sheet .exit)) (given (now (rules .entry)) (now (steps .entry)) (now (combinators .entry)) (now (properties .entry)) (now (kinds .entry)) (now (numbers .entry))) ⌝ }
+    ensures { λ r. ⌜ Closes (firstOf (directFaults (now (sheet .entry)) (openOf f (given (now (rules .entry)) (now (steps .entry)) (now (combinators .entry)) (now (properties .entry)) (now (kinds .entry)) (now (numbers .entry)))) origin)) (now (sheet .entry)) f (given (now (rules .entry)) (now (steps .entry)) (now (combinators .entry)) (now (properties .entry)) (now (kinds .entry)) (now (numbers .entry))) (direct origin none) r (now (sheet .exit)) ⌝ }
 {
     if 7 < origin {
         return refused(6, f);
@@ -556,7 +555,7 @@ fn take_group(
 ) -> Taken
     requires { ⌜ sheetShape (now sheet) ≡ true ⌝ }
     requires { ⌜ Sound f (given (now rules) (now steps) (now combinators) (now properties) (now kinds) (now numbers)) ⌝ }
-    ensures { λ r. ⌜ Closes (closingVerdict (firstOf (groupFaults origin)) (now (sheet .entry)) (openOf f (given (now (rules .entry)) (now (steps .entry)) (now (combinators .entry)) (now (properties .entry)) (now (kinds .entry)) (now (numbers .entry))))) (now (sheet .entry)) (closed (now (sheet .entry)) (openOf f (given (now (rules .entry)) (now (steps .entry)) (now (combinators .entry)) (now (properties .entry)) (now (kinds .entry)) (now (numbers .entry))))) (openOf f (given (now (rules .entry)) (now (steps .entry)) (now (combinators .entry)) (now (properties .entry)) (now (kinds .entry)) (now (numbers .entry)))) (Opened.rules origin none) r (now (sheet .exit)) (given (now (rules .entry)) (now (steps .entry)) (now (combinators .entry)) (now (properties .entry)) (now (kinds .entry)) (now (numbers .entry))) ⌝ }
+    ensures { λ r. ⌜ Closes (firstOf (groupFaults origin)) (now (sheet .entry)) f (given (now (rules .entry)) (now (steps .entry)) (now (combinators .entry)) (now (properties .entry)) (now (kinds .entry)) (now (numbers .entry))) (group origin none) r (now (sheet .exit)) ⌝ }
 {
     if 7 < origin {
         return refused(6, f);
@@ -589,7 +588,7 @@ fn take_end(
 ) -> Taken
     requires { ⌜ sheetShape (now sheet) ≡ true ⌝ }
     requires { ⌜ Sound f (given (now rules) (now steps) (now combinators) (now properties) (now kinds) (now numbers)) ⌝ }
-    ensures { λ r. ⌜ Closes (closingVerdict (firstOf ([])) (now (sheet .entry)) (openOf f (given (now (rules .entry)) (now (steps .entry)) (now (combinators .entry)) (now (properties .entry)) (now (kinds .entry)) (now (numbers .entry))))) (now (sheet .entry)) (closed (now (sheet .entry)) (openOf f (given (now (rules .entry)) (now (steps .entry)) (now (combinators .entry)) (now (properties .entry)) (now (kinds .entry)) (now (numbers .entry))))) (openOf f (given (now (rules .entry)) (now (steps .entry)) (now (combinators .entry)) (now (properties .entry)) (now (kinds .entry)) (now (numbers .entry)))) (nothing) r (now (sheet .exit)) (given (now (rules .entry)) (now (steps .entry)) (now (combinators .entry)) (now (properties .entry)) (now (kinds .entry)) (now (numbers .entry))) ⌝ }
+    ensures { λ r. ⌜ Closes 0 (now (sheet .entry)) f (given (now (rules .entry)) (now (steps .entry)) (now (combinators .entry)) (now (properties .entry)) (now (kinds .entry)) (now (numbers .entry))) nothing r (now (sheet .exit)) ⌝ }
 {
     let v = close(
         sheet,
@@ -624,7 +623,7 @@ fn take_added(
     requires { ⌜ sheetShape (now sheet) ≡ true ⌝ }
     requires { ⌜ Sound f (given (now rules) (now steps) (now combinators) (now properties) (now kinds) (now numbers)) ⌝ }
     requires { ⌜ Narrow item ⌝ }
-    ensures { λ r. ⌜ Adds (addedFault (now (sheet .entry)) (openOf f (given (now (rules .entry)) (now (steps .entry)) (now (combinators .entry)) (now (properties .entry)) (now (kinds .entry)) (now (numbers .entry)))) item) (openOf f (given (now (rules .entry)) (now (steps .entry)) (now (combinators .entry)) (now (properties .entry)) (now (kinds .entry)) (now (numbers .entry)))) (addedTo (openOf f (given (now (rules .entry)) (now (steps .entry)) (now (combinators .entry)) (now (properties .entry)) (now (kinds .entry)) (now (numbers .entry)))) item) r (given (now (rules .exit)) (now (steps .exit)) (now (combinators .exit)) (now (properties .exit)) (now (kinds .exit)) (now (numbers .exit))) ⌝ }
+    ensures { λ r. ⌜ Adds (addedFault (now (sheet .entry)) (openOf f (given (now (rules .entry)) (now (steps .entry)) (now (combinators .entry)) (now (properties .entry)) (now (kinds .entry)) (now (numbers .entry)))) item) f (given (now (rules .entry)) (now (steps .entry)) (now (combinators .entry)) (now (properties .entry)) (now (kinds .entry)) (now (numbers .entry))) (addedTo (openOf f (given (now (rules .entry)) (now (steps .entry)) (now (combinators .entry)) (now (properties .entry)) (now (kinds .entry)) (now (numbers .entry)))) item) r (given (now (rules .exit)) (now (steps .exit)) (now (combinators .exit)) (now (properties .exit)) (now (kinds .exit)) (now (numbers .exit))) ⌝ }
 {
     if item.kind == 4 {
         return take_rule(
@@ -697,7 +696,7 @@ pub fn take(
     requires { ⌜ sheetShape (now sheet) ≡ true ⌝ }
     requires { ⌜ Sound f (given (now rules) (now steps) (now combinators) (now properties) (now kinds) (now numbers)) ⌝ }
     requires { ⌜ Narrow item ⌝ }
-    ensures { λ r. ⌜ Takes (now (sheet .entry)) (openOf f (given (now (rules .entry)) (now (steps .entry)) (now (combinators .entry)) (now (properties .entry)) (now (kinds .entry)) (now (numbers .entry)))) item r (now (sheet .exit)) (given (now (rules .exit)) (now (steps .exit)) (now (combinators .exit)) (now (properties .exit)) (now (kinds .exit)) (now (numbers .exit))) ⌝ }
+    ensures { λ r. ⌜ Takes (now (sheet .entry)) f (given (now (rules .entry)) (now (steps .entry)) (now (combinators .entry)) (now (properties .entry)) (now (kinds .entry)) (now (numbers .entry))) item r (now (sheet .exit)) (given (now (rules .exit)) (now (steps .exit)) (now (combinators .exit)) (now (properties .exit)) (now (kinds .exit)) (now (numbers .exit))) ⌝ }
 {
     if item.kind == 2 {
         return take_direct(

@@ -25,7 +25,7 @@ same-length-6 : tie.Need-same-length-6
 same-length-6 c = search needs
 
 returns : tie.Need-returns
-returns c = adds-rule _ _ _ _ _ ((c .before .before .before .before .before .before .before .before .before) .if1 .taken) ((c .before .before) .take-rule .ensures)
+returns c = adds-rule _ _ _ _ _ _ ((c .before .before .before .before .before .before .before .before .before) .if1 .taken) ((c .before .before) .take-rule .ensures)
 
 take-step-requires : tie.Need-take-step-requires
 take-step-requires c κs = search needs
@@ -49,7 +49,7 @@ same-length-12 : tie.Need-same-length-12
 same-length-12 c = search needs
 
 returns-2 : tie.Need-returns-2
-returns-2 c = adds-step _ _ _ _ _ ((c .before .before .before .before .before .before .before .before .before .before .before .before .before) .if2 .taken) ((c .before .before .before .before .before .before) .take-step .ensures)
+returns-2 c = adds-step _ _ _ _ _ _ ((c .before .before .before .before .before .before .before .before .before .before .before .before .before) .if2 .taken) ((c .before .before .before .before .before .before) .take-step .ensures)
 
 take-requirement-requires : tie.Need-take-requirement-requires
 take-requirement-requires c κs = search needs
@@ -73,7 +73,7 @@ same-length-18 : tie.Need-same-length-18
 same-length-18 c = search needs
 
 returns-3 : tie.Need-returns-3
-returns-3 c = adds-requirement _ _ _ _ _ ((c .before .before .before .before .before .before .before .before .before) .if3 .taken) ((c .before .before) .take-requirement .ensures)
+returns-3 c = adds-requirement _ _ _ _ _ _ ((c .before .before .before .before .before .before .before .before .before) .if3 .taken) ((c .before .before) .take-requirement .ensures)
 
 take-entry-requires : tie.Need-take-entry-requires
 take-entry-requires c κs =
@@ -99,7 +99,7 @@ same-length-24 : tie.Need-same-length-24
 same-length-24 c = search needs
 
 returns-4 : tie.Need-returns-4
-returns-4 c = adds-entry _ _ _ _ _ ((c .before .before .before .before .before .before .before .before .before .before .before .before .before .before .before) .if4 .taken) ((c .before .before .before .before .before .before .before .before) .take-entry .ensures)
+returns-4 c = adds-entry _ _ _ _ _ _ ((c .before .before .before .before .before .before .before .before .before .before .before .before .before .before .before) .if4 .taken) ((c .before .before .before .before .before .before .before .before) .take-entry .ensures)
 
 refused-requires : tie.Need-refused-requires
 refused-requires c κs = search needs

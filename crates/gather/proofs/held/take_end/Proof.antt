@@ -1,6 +1,6 @@
 use borrow.Author.Needs.{needs}
 use native.Mathlib.Omega.{arith}
-use Rattle.lent.proofs.Refusals.{first-end}
+use mathlib.Core.Path.{refl}
 use Rattle.gather.proofs.Closing.{newly-nothing, closes-refused, closes-opened}
 use Rattle.gather.proofs.held.take_end.Statement.{statement}
 use Rattle.gather.proofs.held.take_end.Tie as tie
@@ -17,7 +17,7 @@ same-length c = search needs
 returns : tie.Need-returns
 returns c =
     let start = c .before .before .before .before .before .before .before .before .before .before .before .before .before in
-    closes-refused (start .args .sheet .now) _ _ (start .pre .1) (start .pre .0) _ _ _ _ _ first-end ((c .before .before .before .before) .close .ensures) (c .before .if1 .taken) (c .refused .ensures)
+    closes-refused (start .args .sheet .now) _ _ (start .pre .1) (start .pre .0) _ _ _ _ _ refl ((c .before .before .before .before) .close .ensures) (c .before .if1 .taken) (c .refused .ensures)
 
 opened-requires : tie.Need-opened-requires
 opened-requires c κs = search needs
@@ -31,7 +31,7 @@ same-length-2 c = search needs
 returns-2 : tie.Need-returns-2
 returns-2 c =
     let start = c .before .before .before .before .before .before .before .before .before .before .before .before .before .before in
-    closes-opened (start .args .sheet .now) _ _ (start .pre .1) (start .pre .0) _ _ _ _ _ first-end ((c .before .before .before .before .before) .close .ensures) (λ k. omega (arith, (c .before .before .before .before .before .before .before .before .before) .shared-slice-known4 .given k)) (c .before .before .if1 .left) 0 0 _ (omega arith) (newly-nothing _) (c .before .opened .ensures) (c .accepted .ensures)
+    closes-opened (start .args .sheet .now) _ _ (start .pre .1) (start .pre .0) _ _ _ _ _ refl ((c .before .before .before .before .before) .close .ensures) (λ k. omega (arith, (c .before .before .before .before .before .before .before .before .before) .shared-slice-known4 .given k)) (c .before .before .if1 .left) 0 0 _ (omega arith) (newly-nothing _) (c .before .opened .ensures) (c .accepted .ensures)
 
 pub take-end-spec : {M : Type 1} → statement M
 take-end-spec =
