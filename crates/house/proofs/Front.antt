@@ -1,14 +1,16 @@
 -- What stands at the front of bytes, as `front` tells it. Assumes nothing.
-use mathlib.Core.Path.{_≡_, refl, sym, _∙_}
+use mathlib.Core.Path.{_≡_, refl, sym, ap, _∙_}
 use mathlib.Core.Bool.{Bool, cond, true, false, not}
 use mathlib.Core.List.{List, _++_}
-use Prim.Native.Nat.{ℕ, _+_, _≤_}
+use Prim.Native.Nat.{ℕ, _+_, _-_, _≤_, _<_}
 use native.Mathlib.Omega.{arith}
-use lib.ListN.{length, drop, length-append, length-drop}
+use native.Mathlib.Decide.{decLt}
+use lib.ListN.{length, take, drop, length-append, length-drop}
 use borrow.Author.Tests.{leb-false, not-true, not-false}
-use Rattle.records.specs.Records.{known, kindOf, sizeOf, isWhole}
-use Rattle.records.proofs.Records.{size-some, size-most, whole-room}
-use Rattle.house.specs.Memory.{Below}
+use Rattle.records.specs.declared.Record.{Record}
+use Rattle.records.specs.Records.{known, kindOf, sizeOf, isWhole, recordIn}
+use Rattle.records.proofs.Records.{size-some, size-most, whole-room, whole-kind}
+use Rattle.house.specs.Memory.{Below, Cut}
 
 abbrev pub tells : Bool → Bool → ℕ
 tells known whole = cond known (cond whole 0 1) 2
@@ -27,10 +29,10 @@ front-none true true e = absurd (omega arith)
 front-none true false e = absurd (omega arith)
 front-none false w e = refl
 
-front-cut : (k w : Bool) → tells k w ≡ 1 → (k ≡ true) × (w ≡ false)
-front-cut true true e = absurd (omega arith)
-front-cut true false e = (refl, refl)
-front-cut false w e = absurd (omega arith)
+front-one : (k w : Bool) → tells k w ≡ 1 → (k ≡ true) × (w ≡ false)
+front-one true true e = absurd (omega arith)
+front-one true false e = (refl, refl)
+front-one false w e = absurd (omega arith)
 
 module _ (bytes : List ℕ) (found : ℕ) (f : found ≡ frontOf bytes) where
   pub front-whole : (found ≡ 1 → ⊥) → (found ≡ 2 → ⊥) → isWhole bytes ≡ true
@@ -39,27 +41,53 @@ module _ (bytes : List ℕ) (found : ℕ) (f : found ≡ frontOf bytes) where
   pub front-unknown : found ≡ 2 → known (kindOf bytes) ≡ false
   front-unknown e = front-none (known (kindOf bytes)) (isWhole bytes) (sym f ∙ e)
 
-  -- the beginning of a record is not whole, and short
-  pub front-open : found ≡ 1 → isWhole bytes ≡ false
-  front-open e = front-cut (known (kindOf bytes)) (isWhole bytes) (sym f ∙ e) .1
+  pub front-cut : found ≡ 1 → Cut bytes
+  front-cut e = let (k, w) = front-one (known (kindOf bytes)) (isWhole bytes) (sym f ∙ e) in record { short = w; begun = λ _. k }
 
-  pub front-short : found ≡ 1 → length bytes ≤ 8
-  unfolding isWhole
-  front-short e =
-      let (k, w) = front-cut (known (kindOf bytes)) (isWhole bytes) (sym f ∙ e) in
-      omega (arith, leb-false (sizeOf (kindOf bytes)) (length bytes) (rw k at w), size-most (kindOf bytes))
-
--- nor is nothing a record
-pub none-whole : (bytes : List ℕ) → length bytes ≤ 0 → isWhole bytes ≡ false
-none-whole bytes h = by (isWhole bytes) refl
+-- no byte is no record
+pub none-cut : (bytes : List ℕ) → length bytes ≤ 0 → Cut bytes
+none-cut bytes h = record { short = by (isWhole bytes) refl; begun = λ l. absurd (omega arith) }
   where
     by : (b : Bool) → isWhole bytes ≡ b → b ≡ false
     by true e = absurd (omega (arith, whole-room bytes e, size-some (kindOf bytes)))
     by false e = refl
 
+-- what is cut short has no more bytes than the longest body
+pub cut-few : (bytes : List ℕ) → Cut bytes → length bytes ≤ 8
+unfolding isWhole
+cut-few bytes c = elim (decLt 0 (length bytes)) [
+  | yes h ↦ omega (arith, leb-false (sizeOf (kindOf bytes)) (length bytes) (rw (c .begun h) at (c .short)), size-most (kindOf bytes))
+  | no h ↦ omega arith
+]
+
+-- a piece from a place on, as the code takes it
+abbrev pub rested : List ℕ → ℕ → List ℕ
+rested input at = take (length input - at) (drop at input)
+
 -- where the place goes with what was taken, the input ends where it did
 pub rest-below : (start offset at : ℕ) (input more : List ℕ) → at ≤ length input → offset ≡ start + at → Below start (input ++ more) → Below offset (drop at input ++ more)
 rest-below start offset at input more h e l = rw (length-append, length-drop) (omega (arith, length-append input more))
+
+-- ---- the record at the front, as the code reads it
+
+record-kind : (bytes : List ℕ) → recordIn bytes .kind ≡ kindOf bytes
+unfolding recordIn
+record-kind bytes = refl
+
+module _ (bytes : List ℕ) (item : Record) (e : item ≡ recordIn bytes) where
+  item-kind : item .kind ≡ kindOf bytes
+  item-kind = rw e (record-kind bytes)
+
+  pub item-size : (size : ℕ) → size ≡ sizeOf (item .kind) → size ≡ sizeOf (kindOf bytes)
+  item-size size z = z ∙ ap sizeOf item-kind
+
+  module _ (w : isWhole bytes ≡ true) where
+    pub item-known : item .kind ≤ 12
+    item-known = whole-kind bytes (item .kind) item-kind w
+
+    -- the place after it is within the bytes
+    pub item-room : (size at m : ℕ) → size ≡ sizeOf (item .kind) → at ≡ m → m + length bytes < 18446744073709551616 → at + size < 18446744073709551616
+    item-room size at m z p h = omega (arith, item-size size z, whole-room bytes w)
 
 -- the ways through `front`
 module _ (bytes : List ℕ) (kind : ℕ) (k : Bool) (q : kind ≡ kindOf bytes) (e : k ≡ known kind) where

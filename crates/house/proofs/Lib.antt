@@ -5,5 +5,6 @@ pub mod Taking
 pub mod Feeding
 pub mod Rows
 pub mod Long
+pub mod Ends
 pub mod Walking
 pub mod Starting

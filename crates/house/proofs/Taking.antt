@@ -1,11 +1,11 @@
 -- The ways through the functions that take a record of those up to kind 8. Assumes nothing.
-use mathlib.Core.Path.{_≡_, refl, sym, ap, _∙_, subst}
-use mathlib.Core.Bool.{Bool, cond, true, false}
-use mathlib.Core.List.{List, [], _∷_, _++_}
+use mathlib.Core.Path.{_≡_, refl, sym, _∙_, subst}
+use mathlib.Core.Bool.{cond, true, false}
+use mathlib.Core.List.{List, []}
 use Prim.Native.Nat.{ℕ, _+_, _≤_, _<_}
 use native.Mathlib.Omega.{arith}
 use native.Mathlib.Decide.{ℕ-discrete}
-use lib.ListN.{length, drop, replicate, length-replicate}
+use lib.ListN.{replicate, length-replicate}
 use lib.Seq.{sets}
 use lib.Dec.{eqb, ltb}
 use borrow.Author.Tests.{le-ltb, lt-ltb, eq-eqb, ne-eqb}
@@ -16,8 +16,7 @@ use Rattle.sheet.specs.Shape.{sheetShape}
 use Rattle.given.specs.Given.{Group}
 use Rattle.laid.proofs.Emptied.{shape-emptied}
 use Rattle.records.specs.declared.Record.{Record}
-use Rattle.records.specs.Records.{kindOf, sizeOf, isWhole, recordIn}
-use Rattle.records.proofs.Records.{whole-kind, whole-room}
+use Rattle.records.specs.Records.{sizeOf, recordIn}
 use Rattle.gather.specs.declared.Filled.{Filled}
 use Rattle.gather.specs.declared.Taken.{Taken}
 use Rattle.gather.specs.Opened.{Open, nothing}
@@ -25,11 +24,11 @@ use Rattle.gather.specs.Making.{makingVerdict, sheetAfter, openAfter}
 use Rattle.gather.specs.Memory.{openOf, Roomy, Sound, Takes}
 use Rattle.replies.specs.Lines.{refusedLine}
 use Rattle.house.specs.declared.Making.{Making}
-use Rattle.house.specs.House.{Phase, first, making, walks, stops, leads, emptySheet, firstVerdict, makingOutcome, outcome, built-of, walkFrom}
-use Rattle.house.specs.Memory.{phaseOf, Before}
-use Rattle.house.specs.Taking.{refusing, moved, Stands, nextPhase, did, Took, Past, leftOf, TookFront}
+use Rattle.house.specs.House.{first, making, stops, leads, emptySheet, firstVerdict, makingOutcome, outcome}
+use Rattle.house.specs.Memory.{phaseOf, Before, Stands, nextPhase}
+use Rattle.house.specs.Taking.{refusing, moved, did, Took, Past, TookFront}
 use Rattle.house.proofs.Never.{build-never-refused}
-use Rattle.house.proofs.Walk.{walk-stops, walk-leads}
+use Rattle.house.proofs.Front.{item-size}
 
 -- ---- the phase
 
@@ -43,14 +42,16 @@ module _ (m : Making) (w : List ℕ) (g : Group) where
   phase-making e = rw e
 
   -- a refused record
-  took-refused : (r : Record) (v : ℕ) (w′ : List ℕ) (g′ : Group)
-      → Roomy g′
-      → ((room : ℕ) → outcome room (phaseOf m w g) (m .offset) r ≡ stops (refusedLine v (m .offset)))
-      → Took m w g r (refusing m v) w′ g′
+  took-refused : (r : Record) (v : ℕ) → Roomy g → ((room : ℕ) → outcome room (phaseOf m w g) (m .offset) r ≡ stops (refusedLine v (m .offset))) → Took m w g r (refusing m v) w g
   unfolding did
-  took-refused r v w′ g′ room e = record {
-    does = e;
-    stands = record { before = λ h. absurd (omega arith); ready = λ h. absurd (omega arith); known = omega arith; room = room };
+  took-refused r v room e = record {
+    done = record {
+      does = e;
+      stands = record { before = λ h. absurd (omega arith); ready = λ h. absurd (omega arith); known = omega arith; room = room };
+      keeps = λ _. (refl, refl, refl);
+      quiet = λ n. absurd (n refl);
+      some = λ z. absurd (omega arith);
+    };
     at = refl;
     offset = refl;
   }
@@ -78,7 +79,7 @@ open-nothing f g e = rw e
 
 module _ (m : Making) (w : List ℕ) (g : Group) (b : Before m w g) (z : m .state ≡ 0) (r : Record) where
   begin-refused : (v : ℕ) → firstVerdict r ≡ v → eqb v 0 ≡ false → Took m w g r (refusing m v) w g
-  begin-refused v e n = took-refused m w g r v w g (b .sound .room) (λ room. rw (phase-first m w g z) (unfold outcome in rw (e, n)))
+  begin-refused v e n = took-refused m w g r v (b .sound .room) (λ room. rw (phase-first m w g z) (unfold outcome in rw (e, n)))
 
   pub begin-kind : (m′ : Making) → m′ ≡ refusing m 10 → (r .kind ≡ 1 → ⊥) → Took m w g r m′ w g
   begin-kind m′ q n = rw q (begin-refused 10 (not-first r n) refl)
@@ -94,19 +95,24 @@ module _ (m : Making) (w : List ℕ) (g : Group) (b : Before m w g) (z : m .stat
   begin-taken w′ e h q =
       let s = emptied-is w′ q in
       record {
-        does = λ room. rw (phase-first m w g z, s) (begun-does room);
-        stands = record {
-          before = λ l. record {
-            awaits = omega arith;
-            zeros = λ x. absurd (omega arith);
-            nothing = λ x. absurd (omega arith);
-            sound = b .sound;
-            shape = rw s (shape-emptied (replicate SHEET-WORDS 0) (rw length-replicate (omega arith)));
-            ranking = h;
+        done = record {
+          does = λ room. rw (phase-first m w g z, s) (begun-does room);
+          stands = record {
+            before = λ l. record {
+              awaits = omega arith;
+              zeros = λ x. absurd (omega arith);
+              nothing = λ x. absurd (omega arith);
+              sound = b .sound;
+              shape = rw s (shape-emptied (replicate SHEET-WORDS 0) (rw length-replicate (omega arith)));
+              ranking = h;
+            };
+            ready = λ x. absurd (omega arith);
+            known = omega arith;
+            room = b .sound .room;
           };
-          ready = λ x. absurd (omega arith);
-          known = omega arith;
-          room = b .sound .room;
+          keeps = λ x. absurd (omega arith);
+          quiet = λ _. refl;
+          some = λ x. absurd (omega arith);
         };
         at = refl;
         offset = refl;
@@ -121,10 +127,11 @@ abbrev gone : Making → ℕ → Filled → Making
 gone m state f = record { state = state; ranking = m .ranking; stamp = m .stamp; verdict = m .verdict; offset = m .offset; at = m .at; filled = f }
 
 module _ (m : Making) (w : List ℕ) (g : Group) (b : Before m w g) (z : m .state ≡ 1) (r : Record) (t : Taken) (w′ : List ℕ) (g′ : Group)
-    (k : Takes w (openOf (m .filled) g) r t w′ g′) where
+    (k : Takes w (m .filled) g r t w′ g′) where
   pub go-refused : (m′ : Making) → m′ ≡ refusing m (t .verdict) → (t .verdict ≡ 0 → ⊥) → Took m w g r m′ w′ g′
   go-refused m′ q n =
-      rw q (took-refused m w g r (t .verdict) w′ g′ (k .sound .room) (λ room.
+      let same : w′ ≡ w = k .sheet ∙ rw (← k .answer, ne-eqb (t .verdict) 0 n) in
+      rw (q, same, k .keeps n .1) (took-refused m w g r (t .verdict) (b .sound .room) (λ room.
       rw (phase-making m w g z) (unfold outcome makingOutcome in rw (← k .answer, ne-eqb (t .verdict) 0 n))))
 
   module _ (a : t .verdict ≡ 0) where
@@ -135,38 +142,48 @@ module _ (m : Making) (w : List ℕ) (g : Group) (b : Before m w g) (z : m .stat
     sheet-after = k .sheet ∙ rw zero-verdict
 
     open-after : openOf (t .filled) g′ ≡ openAfter (openOf (m .filled) g) r
-    open-after = k .opens ∙ rw zero-verdict
+    open-after = k .opens a
 
     go-end : r .kind ≡ 8 → Took m w g r (gone m 3 (t .filled)) w′ g′
     go-end e = record {
-      does = λ room.
-          rw (phase-making m w g z) (unfold outcome makingOutcome did in rw (
-            zero-verdict,
-            eq-eqb (r .kind) 8 e,
-            ← sheet-after,
-            build-never-refused w′ (m .ranking) room (k .shape) (b .ranking),
-          ));
-      stands = record { before = λ l. absurd (omega arith); ready = λ x. (k .shape, b .ranking); known = omega arith; room = k .sound .room };
+      done = record {
+        does = λ room.
+            rw (phase-making m w g z) (unfold outcome makingOutcome did in rw (
+              zero-verdict,
+              eq-eqb (r .kind) 8 e,
+              ← sheet-after,
+              build-never-refused w′ (m .ranking) room (k .shape) (b .ranking),
+            ));
+        stands = record { before = λ l. absurd (omega arith); ready = λ x. (k .shape, b .ranking); known = omega arith; room = k .sound .room };
+        keeps = λ x. absurd (omega arith);
+        quiet = λ _. refl;
+        some = λ x. absurd (omega arith);
+      };
       at = refl;
       offset = refl;
     }
 
     go-on : (r .kind ≡ 8 → ⊥) → Took m w g r (gone m 1 (t .filled)) w′ g′
     go-on n = record {
-      does = λ room.
-          rw (phase-making m w g z) (unfold outcome makingOutcome did phaseOf in rw (zero-verdict, ne-eqb (r .kind) 8 n, ← sheet-after, ← open-after));
-      stands = record {
-        before = λ l. record {
-          awaits = omega arith;
-          zeros = λ x. absurd (omega arith);
-          nothing = λ x. absurd (omega arith);
-          sound = k .sound;
-          shape = k .shape;
-          ranking = b .ranking;
+      done = record {
+        does = λ room.
+            rw (phase-making m w g z) (unfold outcome makingOutcome did phaseOf in rw (zero-verdict, ne-eqb (r .kind) 8 n, ← sheet-after, ← open-after));
+        stands = record {
+          before = λ l. record {
+            awaits = omega arith;
+            zeros = λ x. absurd (omega arith);
+            nothing = λ x. absurd (omega arith);
+            sound = k .sound;
+            shape = k .shape;
+            ranking = b .ranking;
+          };
+          ready = λ x. absurd (omega arith);
+          known = omega arith;
+          room = k .sound .room;
         };
-        ready = λ x. absurd (omega arith);
-        known = omega arith;
-        room = k .sound .room;
+        keeps = λ x. absurd (omega arith);
+        quiet = λ _. refl;
+        some = λ x. absurd (omega arith);
       };
       at = refl;
       offset = refl;
@@ -212,91 +229,44 @@ moved-before o a b = record { awaits = b .awaits; zeros = b .zeros; nothing = b 
 pub moved-stands : {m : Making} {w : List ℕ} {g : Group} (o a : ℕ) → Stands m w g → Stands (moved m o a) w g
 moved-stands o a s = record { before = λ h. moved-before o a (s .before h); ready = s .ready; known = s .known; room = s .room }
 
--- what is left, by the state
-module _ (room : ℕ) (bytes : List ℕ) (m : Making) (w : List ℕ) (g : Group) where
-  pub left-refused : m .state ≡ 2 → leftOf room bytes m w g ≡ refusedLine (m .verdict) (m .offset)
-  left-refused e = rw e
-
-  pub left-waits : m .state ≤ 1 → leftOf room bytes m w g ≡ walkFrom room (phaseOf m w g) (m .offset) bytes
-  left-waits h = rw (ne-eqb (m .state) 2 (λ e. omega arith), ne-eqb (m .state) 3 (λ e. omega arith))
-
-  pub left-on : (m .state ≡ 2 → ⊥) → leftOf room bytes m w g ≡ walkFrom room (nextPhase room m w g) (m .offset) bytes
-  left-on n = rw (ne-eqb (m .state) 2 n) (either (eqb (m .state) 3) (walks (built-of room w (m .ranking) (m .stamp))) (phaseOf m w g))
-    where
-      either : (t : Bool) (p q : Phase) → cond t (walkFrom room p (m .offset) bytes) (walkFrom room q (m .offset) bytes) ≡ walkFrom room (cond t p q) (m .offset) bytes
-      either true p q = refl
-      either false p q = refl
-
-  did-refused : m .state ≡ 2 → did room m w g ≡ stops (refusedLine (m .verdict) (m .offset))
+-- what a record did, by the state
+module _ (room : ℕ) (m : Making) (w : List ℕ) (g : Group) where
+  pub did-refused : m .state ≡ 2 → did room m w g ≡ stops (refusedLine (m .verdict) (m .offset))
   unfolding did
   did-refused e = rw e
 
-  did-on : (m .state ≡ 2 → ⊥) → did room m w g ≡ leads [] (nextPhase room m w g)
+  pub did-on : (m .state ≡ 2 → ⊥) → did room m w g ≡ leads [] (nextPhase room m w g)
   unfolding did
   did-on n = rw (ne-eqb (m .state) 2 n)
 
-module _ (m : Making) (w : List ℕ) (g : Group) (bytes : List ℕ) (m′ : Making) (w′ : List ℕ) (g′ : Group) (whole : isWhole bytes ≡ true) (t : Took m w g (recordIn bytes) m′ w′ g′) where
-  front-refused : m′ .state ≡ 2 → TookFront m w g bytes m′ w′ g′
-  front-refused e = record {
-    prints = λ room more h.
-        walk-stops room (phaseOf m w g) (m .offset) bytes more whole (refusedLine (m′ .verdict) (m′ .offset)) (t .does room ∙ did-refused room [] m′ w′ g′ e)
-        ∙ sym (left-refused room (drop (sizeOf (kindOf bytes)) bytes ++ more) m′ w′ g′ e);
-    stands = t .stands;
-    stays = λ _. (t .at, t .offset);
-    goes = λ n. absurd (n e);
-    reach = λ n. absurd (n e);
-  }
-
-  front-moved : (m′ .state ≡ 2 → ⊥) → (o : ℕ)
-      → (m′ .offset + sizeOf (kindOf bytes) < 18446744073709551616 → o ≡ m′ .offset + sizeOf (kindOf bytes))
-      → TookFront m w g bytes (moved m′ o (m′ .at + sizeOf (kindOf bytes))) w′ g′
-  front-moved n o reach =
-      let far : m .offset + sizeOf (kindOf bytes) < 18446744073709551616 → o ≡ m .offset + sizeOf (kindOf bytes) = λ h. reach (rw (t .offset) h) ∙ rw (t .offset) in
-      record {
-        prints = λ room more h.
-            walk-leads room (phaseOf m w g) (m .offset) bytes more whole [] (nextPhase room m′ w′ g′) (t .does room ∙ did-on room [] m′ w′ g′ n)
-            ∙ rw (← far h) (sym (left-moved room (drop (sizeOf (kindOf bytes)) bytes ++ more)));
-        stands = moved-stands o (m′ .at + sizeOf (kindOf bytes)) (t .stands);
-        stays = λ e. absurd (n e);
-        goes = λ _. rw (t .at);
-        reach = λ _ h. far h;
-      }
-    where
-      left-moved : (room : ℕ) (rest : List ℕ)
-          → leftOf room rest (moved m′ o (m′ .at + sizeOf (kindOf bytes))) w′ g′ ≡ walkFrom room (nextPhase room m′ w′ g′) o rest
-      left-moved room rest =
-          left-on room rest (moved m′ o (m′ .at + sizeOf (kindOf bytes))) w′ g′ n
-          ∙ rw (moved-phase m′ w′ g′ o (m′ .at + sizeOf (kindOf bytes)))
-
-  pub front-past : (size : ℕ) (m″ : Making) → size ≡ sizeOf (kindOf bytes) → Past m′ size m″ → TookFront m w g bytes m″ w′ g′
-  front-past size m″ z p = elim (ℕ-discrete (m′ .state) 2) [
-    | yes e ↦ subst (λ (x : Making). TookFront m w g bytes x w′ g′) (sym (p .stays e)) (front-refused e)
-    | no n ↦
-        let q : m″ ≡ moved m′ (m″ .offset) (m′ .at + sizeOf (kindOf bytes)) = p .goes n ∙ rw z in
-        subst (λ (x : Making). TookFront m w g bytes x w′ g′) (sym q) (front-moved n (m″ .offset) (λ h. p .reach n (rw z h) ∙ rw z))
-  ]
-
-kind-in : (bytes : List ℕ) → recordIn bytes .kind ≡ kindOf bytes
-unfolding recordIn
-kind-in bytes = refl
+  -- an accepted one leads where it did, wherever it stood
+  did-moved : (m .state ≡ 2 → ⊥) → (o a : ℕ) → did room m w g ≡ did room (moved m o a) w g
+  unfolding did phaseOf
+  did-moved n o a = rw (ne-eqb (m .state) 2 n)
 
 -- as the code reads it
-pub front-taken : (m : Making) (w : List ℕ) (g : Group) (bytes : List ℕ) (m′ : Making) (w′ : List ℕ) (g′ : Group) (item : Record) (size : ℕ) (m″ : Making)
-    → isWhole bytes ≡ true
-    → item ≡ recordIn bytes
-    → Took m w g item m′ w′ g′
-    → size ≡ sizeOf (item .kind)
-    → Past m′ size m″
-    → TookFront m w g bytes m″ w′ g′
-front-taken m w g bytes m′ w′ g′ item size m″ whole e t z p = front-past m w g bytes m′ w′ g′ whole (rw e at t) size m″ (z ∙ rw e (ap sizeOf (kind-in bytes))) p
+module _ (m : Making) (w : List ℕ) (g : Group) (bytes : List ℕ) (m′ : Making) (w′ : List ℕ) (g′ : Group) (item : Record) (size : ℕ) (m″ : Making)
+    (e : item ≡ recordIn bytes) (t : Took m w g item m′ w′ g′) (z : size ≡ sizeOf (item .kind)) where
+  front-refused : m′ .state ≡ 2 → TookFront m w g bytes m′ w′ g′
+  front-refused s = record { done = rw (← e) (t .done); goes = λ n. absurd (n s); reach = λ n. absurd (n s) }
 
-module _ (bytes : List ℕ) (item : Record) (whole : isWhole bytes ≡ true) (e : item ≡ recordIn bytes) where
-  item-kind : item .kind ≡ kindOf bytes
-  item-kind = ap (λ (r : Record). r .kind) e ∙ kind-in bytes
+  front-moved : (m′ .state ≡ 2 → ⊥) → (o : ℕ) → (m′ .offset + size < 18446744073709551616 → o ≡ m′ .offset + size) → TookFront m w g bytes (moved m′ o (m′ .at + size)) w′ g′
+  front-moved n o reach =
+      let y = item-size bytes item e size z in
+      record {
+        done = record {
+          does = λ room. rw (← e) (t .done .does room ∙ did-moved room m′ w′ g′ n o (m′ .at + size));
+          stands = moved-stands o (m′ .at + size) (t .done .stands);
+          keeps = λ s. absurd (n s);
+          quiet = t .done .quiet;
+          some = t .done .some;
+        };
+        goes = λ _. rw (t .at, y);
+        reach = λ _ h. reach (omega (arith, t .offset, y)) ∙ rw (t .offset, y);
+      }
 
-  pub item-known : item .kind ≤ 12
-  item-known = whole-kind bytes (item .kind) item-kind whole
-
-  -- the place after it is within the bytes
-  pub item-room : (at m size : ℕ) → at ≡ m → m + length bytes < 18446744073709551616 → size ≡ sizeOf (item .kind) → at + size < 18446744073709551616
-  item-room at m size p h z = let q : size ≡ sizeOf (kindOf bytes) = z ∙ ap sizeOf item-kind in omega (arith, p, h, q, whole-room bytes whole)
+  pub front-taken : Past m′ size m″ → TookFront m w g bytes m″ w′ g′
+  front-taken p = elim (ℕ-discrete (m′ .state) 2) [
+    | yes s ↦ subst (λ (x : Making). TookFront m w g bytes x w′ g′) (sym (p .stays s)) (front-refused s)
+    | no n ↦ subst (λ (x : Making). TookFront m w g bytes x w′ g′) (sym (p .goes n)) (front-moved n (m″ .offset) (p .reach n))
+  ]

@@ -11,7 +11,7 @@ use Rattle.table.specs.Tables.{Table, table, STATE-WORDS, TRANSITION-WORDS}
 use Rattle.table.specs.Entering.{built}
 use Rattle.table.specs.Calls.{buildVerdict}
 use Rattle.records.specs.declared.Record.{Record}
-use Rattle.records.specs.Records.{kindOf, sizeOf, isWhole, recordIn}
+use Rattle.records.specs.Records.{sizeOf, isWhole, recordIn}
 use Rattle.records.specs.Rows.{emptyRow}
 use Rattle.gather.specs.Opened.{Open, nothing}
 use Rattle.gather.specs.Making.{sheetFaults, makingVerdict, sheetAfter, openAfter}
@@ -62,27 +62,43 @@ outcome room first offset r = unless (firstVerdict r) offset (making emptySheet 
 outcome room (making w o ranking stamp) offset r = makingOutcome room w o ranking stamp offset r
 outcome room (walks s) offset r = cond (ends s r) (stops (walkingLine s offset r)) (leads (walkingLine s offset r) (walks (walkingAfter s r)))
 
+-- ---- record after record
+
+-- with lines printed before
+abbrev pub printing : List ℕ → Outcome → Outcome
+printing lines (stops text) = stops (lines ++ text)
+printing lines (leads text next) = leads (lines ++ text) next
+
+abbrev pub onward : (Phase → Outcome) → Outcome → Outcome
+onward rest (stops text) = stops text
+onward rest (leads text next) = printing text (rest next)
+
+-- The records of these bytes, the first of them at `offset`: what they print, and where they lead. An "unknown" or "cut short" one is refused.
+-- Every record has a byte: as many turns as there are bytes
+unfoldable pub reachedIn : ℕ → ℕ → Phase → ℕ → List ℕ → Outcome
+reachedIn room zero phase offset bytes = leads [] phase
+reachedIn room (suc turns) phase offset [] = leads [] phase
+reachedIn room (suc turns) phase offset (b ∷ l) =
+    cond (isWhole (b ∷ l))
+    (onward (λ next. reachedIn room turns next (offset + sizeOf b) (drop (sizeOf b) (b ∷ l))) (outcome room phase offset (recordIn (b ∷ l))))
+    (stops (refusedLine 10 offset))
+
+abbrev pub reached : ℕ → Phase → ℕ → List ℕ → Outcome
+reached room phase offset bytes = reachedIn room (length bytes) phase offset bytes
+
 -- "input that ends before 8 (at its length)"
 abbrev pub ending : Phase → ℕ → List ℕ
 ending first offset = refusedLine 10 offset
 ending (making w o ranking stamp) offset = refusedLine 10 offset
 ending (walks s) offset = []
 
--- From a phase on, the bytes that are left, the first of them at `offset`. Every record has a byte: as many turns as there are bytes, and one
 abbrev pub after : (Phase → List ℕ) → Outcome → List ℕ
 after rest (stops text) = text
 after rest (leads text next) = text ++ rest next
 
-unfoldable pub walkIn : ℕ → ℕ → Phase → ℕ → List ℕ → List ℕ
-walkIn room zero phase offset bytes = []
-walkIn room (suc turns) phase offset [] = ending phase offset
-walkIn room (suc turns) phase offset (b ∷ l) =
-    cond (isWhole (b ∷ l))
-    (after (λ next. walkIn room turns next (offset + sizeOf b) (drop (sizeOf b) (b ∷ l))) (outcome room phase offset (recordIn (b ∷ l))))
-    (refusedLine 10 offset)
-
+-- From a phase on, what the bytes that are left print, if they are all
 abbrev pub walkFrom : ℕ → Phase → ℕ → List ℕ → List ℕ
-walkFrom room phase offset bytes = walkIn room (suc (length bytes)) phase offset bytes
+walkFrom room phase offset bytes = after (λ next. ending next (offset + length bytes)) (reached room phase offset bytes)
 
 -- The whole input to the whole output, if there is room for so many transitions
 abbrev pub walkOf : ℕ → List ℕ → List ℕ

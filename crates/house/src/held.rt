@@ -22,7 +22,7 @@ ghost use Rattle.records.specs.Records.{known, kindOf, isWhole, Narrow};
 ghost use Rattle.replies.specs.Memory.{Ready, Room};
 ghost use Rattle.house.specs.Memory.{Before, FedSheet, FedWalk};
 ghost use Rattle.house.specs.Taking.{refusing, Took, Past, TookFront};
-ghost use Rattle.house.specs.Answering.{Answers, Steps, Awaits};
+ghost use Rattle.house.specs.Answering.{pastReply, Answers, Steps, Awaits};
 
 // ---- up to kind 8
 
@@ -220,6 +220,21 @@ pub fn feed_sheet(
 
 // ---- after kind 8
 
+// After a reply: past the record, unless it ends the program.
+fn past_reply(w: Walked, at: usize, offset: u64, used: usize, ends: bool) -> Walked
+    ensures { λ r. ⌜ r ≡ pastReply w at offset used ends ⌝ }
+{
+    if ends {
+        return Walked { used, ends, ..w };
+    }
+    Walked {
+        at,
+        offset,
+        used,
+        ends,
+    }
+}
+
 fn answer_front(
     w: Walked,
     rest: &[u8],
@@ -240,7 +255,7 @@ fn answer_front(
     let size = size_of(item.kind);
     let at = w.at + size;
     let offset = further(w.offset, size);
-    let replied = reply(
+    let answer = reply(
         sheet,
         head,
         states,
@@ -253,12 +268,7 @@ fn answer_front(
         w.used,
         w.offset,
     );
-    Walked {
-        at,
-        offset,
-        used: replied.used,
-        ends: replied.ends,
-    }
+    past_reply(w, at, offset, answer.used, answer.ends)
 }
 
 // Whether there is something to take: not only the beginning of a record, and room for a line more.
@@ -331,7 +341,7 @@ pub fn feed_walk(
     out: &mut [u8],
 ) -> Walked
     requires { ⌜ Ready (now sheet) (table (now head) (now states) (now cursors) (now matched) (now transitions)) (now items) × (length (now out) ≡ 131072) ⌝ }
-    ensures { λ r. ⌜ FedWalk (now (input .entry)) offset (now (sheet .entry)) (table (now (head .entry)) (now (states .entry)) (now (cursors .entry)) (now (matched .entry)) (now (transitions .entry))) (now (items .entry)) r (now (out .exit)) (table (now (head .exit)) (now (states .exit)) (now (cursors .exit)) (now (matched .exit)) (now (transitions .exit))) (now (items .exit)) ⌝ }
+    ensures { λ r. ⌜ FedWalk (now (input .entry)) offset (now (sheet .entry)) (table (now (head .entry)) (now (states .entry)) (now (cursors .entry)) (now (matched .entry)) (now (transitions .entry))) (now (items .entry)) (now (out .entry)) r (now (out .exit)) (table (now (head .exit)) (now (states .exit)) (now (cursors .exit)) (now (matched .exit)) (now (transitions .exit))) (now (items .exit)) ⌝ }
 {
     let mut w = Walked {
         at: 0,

@@ -16,8 +16,8 @@ pub struct Making {
     pub filled: Filled,
 }
 
-// How far the records after kind 8 have come: where the next begins in the piece, its offset, how many bytes of lines there are, and whether the
-// program ends.
+// How far the records after kind 8 have come: where the next begins in the piece, or the one that ends the program, its offset, how many bytes of lines
+// there are, and whether the program ends.
 pub struct Walked {
     pub at: usize,
     pub offset: u64,

@@ -1,6 +1,7 @@
 -- `house::held::answer_front` meets its contract. Assumes nothing.
 use borrow.Author.Needs.{needs}
-use Rattle.house.proofs.Walking.{item-known, next-fits, answers-is}
+use Rattle.house.proofs.Front.{item-known}
+use Rattle.house.proofs.Walking.{place-fits, answers-is}
 use Rattle.house.proofs.held.answer_front.Statement.{statement}
 use Rattle.house.proofs.held.answer_front.Tie as tie
 
@@ -11,7 +12,7 @@ size-of-requires : tie.Need-size-of-requires
 size-of-requires c κs = search (item-known, needs)
 
 add-at : tie.Need-add-at
-add-at c = search (next-fits, needs)
+add-at c = search (place-fits, needs)
 
 further-requires : tie.Need-further-requires
 further-requires c κs = search needs
@@ -40,8 +41,14 @@ same-length-6 c = search needs
 same-length-7 : tie.Need-same-length-7
 same-length-7 c = search needs
 
+past-reply-requires : tie.Need-past-reply-requires
+past-reply-requires c κs = search needs
+
 returns : tie.Need-returns
-returns c = answers-is (c .before .before .before .before .before .before .before .before .before .before .before .before .before .before .before .before .before .before .before .before .before .before .before .before .before .before .before .before .before .before .before .before .before .before .before .args .rest .now) (c .before .before .before .before .before .before .before .before .before .before .before .before .before .before .before .before .before .before .before .before .before .before .before .before .before .record-in .result) (c .before .before .before .before .before .before .before .before .before .before .before .before .before .before .before .before .before .before .before .before .before .before .before .before .before .record-in .ensures .0) (c .before .before .before .before .before .before .before .before .before .before .before .before .before .before .before .before .before .before .before .before .before .before .before .before .size-of .result) (c .before .before .before .before .before .before .before .before .before .before .before .before .before .before .before .before .before .before .before .before .before .before .further .result) (c .before .before .before .before .before .before .before .before .before .before .before .before .before .before .before .before .before .before .before .before .before .before .before .before .size-of .ensures .0) (c .before .before .before .before .before .before .before .before .before .before .before .before .before .before .reply .ensures) (c .before .before .before .before .before .before .before .before .before .before .before .before .before .before .before .before .before .before .before .before .before .before .further .ensures)
+returns c =
+    let d = c .before .before .before .before .before .before .before .before .before .before .before .before .before .before .before in
+    let k = d .before .before .before .before .before .before .before .before .before .before in
+    answers-is (k .before .before .before .before .before .before .before .before .before .before .before .args .rest .now) (k .before .record-in .result) (k .before .record-in .ensures .0) (k .size-of .result) (d .before .before .before .before .before .before .before .before .further .result) (k .size-of .ensures .0) (d .reply .ensures) (d .before .before .before .before .before .before .before .before .further .ensures) (c .past-reply .ensures)
 
 pub answer-front-spec : {M : Type 1} → statement M
 answer-front-spec =
@@ -52,6 +59,7 @@ answer-front-spec =
     add-at
     further-requires
     reply-requires
+    past-reply-requires
     same-length
     same-length-2
     same-length-3

@@ -4,7 +4,7 @@ use mathlib.Core.Path.{_≡_, _∙_}
 use native.Mathlib.Omega.{arith}
 use lib.ListN.{length}
 use Rattle.given.specs.Given.{given}
-use Rattle.house.specs.Taking.{Feeding}
+use Rattle.house.specs.Memory.{MadeSoFar}
 use Rattle.house.proofs.Feeding.{start-fed, stop-fed, end-fed, wait-fed, unknown-fed, turn-before, turn-room, turn-whole, turn-one, turn-falls}
 use borrow.Author.Needs.{needs}
 use Rattle.house.proofs.held.feed_sheet.Statement.{statement}
@@ -12,7 +12,7 @@ use Rattle.house.proofs.held.feed_sheet.Tie as tie
 
 abbrev Inv-loop : tie.InvT-loop
 Inv-loop input sheet₀ rules₀ steps₀ combinators₀ properties₀ kinds₀ numbers₀ m₀ sheet rules steps combinators properties kinds numbers m =
-    Feeding input m₀ sheet₀ (given rules₀ steps₀ combinators₀ properties₀ kinds₀ numbers₀) m sheet (given rules steps combinators properties kinds numbers) × (length sheet ≡ length sheet₀) × (length rules ≡ length rules₀) × (length steps ≡ length steps₀) × (length combinators ≡ length combinators₀) × (length properties ≡ length properties₀) × (length kinds ≡ length kinds₀) × (length numbers ≡ length numbers₀)
+    MadeSoFar input m₀ sheet₀ (given rules₀ steps₀ combinators₀ properties₀ kinds₀ numbers₀) m sheet (given rules steps combinators properties kinds numbers) × (length sheet ≡ length sheet₀) × (length rules ≡ length rules₀) × (length steps ≡ length steps₀) × (length combinators ≡ length combinators₀) × (length properties ≡ length properties₀) × (length kinds ≡ length kinds₀) × (length numbers ≡ length numbers₀)
 
 abbrev μ-loop : tie.MeasureT-loop
 μ-loop input sheet₀ rules₀ steps₀ combinators₀ properties₀ kinds₀ numbers₀ m₀ sheet rules steps combinators properties kinds numbers m =

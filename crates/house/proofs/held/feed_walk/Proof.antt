@@ -9,7 +9,7 @@ use Rattle.house.proofs.held.feed_walk.Tie as tie
 
 abbrev Inv-loop : tie.InvT-loop
 Inv-loop input offset sheet head₀ states₀ cursors₀ matched₀ transitions₀ items₀ out₀ w₀ head states cursors matched transitions items out w =
-    Going input offset sheet (table head₀ states₀ cursors₀ matched₀ transitions₀) items₀ w out (table head states cursors matched transitions) items
+    Going input offset sheet (table head₀ states₀ cursors₀ matched₀ transitions₀) items₀ out₀ w out (table head states cursors matched transitions) items
     × (length head ≡ length head₀) × (length states ≡ length states₀) × (length cursors ≡ length cursors₀) × (length matched ≡ length matched₀) × (length transitions ≡ length transitions₀) × (length items ≡ length items₀) × (length out ≡ length out₀)
 
 abbrev μ-loop : tie.MeasureT-loop
@@ -35,7 +35,7 @@ step-requires : tie.Need-step-requires Inv-loop μ-loop
 step-requires c κs =
     let g = c .before .before .before .before .before .before .before .before .before .before .loop .inv .0 in
     let n = c .before .before .before .before .before .before .before .before .before .awaits .ensures .goes (c .before .before .before .before .before .before .before .before .if1 .taken) in
-    (g .ready, (next-whole n, going-room g n, next-within n (c .before .before .before .before .before .before .before .before .before .before .before .before .before .before .before .before .before .before .before .before .good .0 .0)))
+    (g .far .ready, (next-whole n, going-room g n, next-within n (c .before .before .before .before .before .before .before .before .before .before .before .before .before .before .before .before .before .before .before .before .good .0 .0)))
 
 loop-less : tie.Need-loop-less Inv-loop μ-loop
 loop-less c = step-less (c .before .before .before .before .before .before .before .before .before .before .before .before .before .before .before .before .before .before .before .before .before .before .before .before .before .loop .inv .0) (c .before .before .before .before .before .before .before .before .before .before .before .before .before .before .before .before .before .before .before .before .before .before .before .before .awaits .ensures .goes (c .before .before .before .before .before .before .before .before .before .before .before .before .before .before .before .before .before .before .before .before .before .before .before .if1 .taken)) (c .before .before .before .before .before .before .before .before .before .before .before .before .before .before .step .ensures)

@@ -1,5 +1,6 @@
 -- `house::held::take_front` meets its contract. Assumes nothing.
-use Rattle.house.proofs.Taking.{item-known, item-room, front-taken}
+use Rattle.house.proofs.Front.{item-known, item-room}
+use Rattle.house.proofs.Taking.{front-taken}
 use borrow.Author.Needs.{needs}
 use Rattle.house.proofs.held.take_front.Statement.{statement}
 use Rattle.house.proofs.held.take_front.Tie as tie
@@ -13,13 +14,13 @@ take-record-requires c κs = search needs
 size-of-requires : tie.Need-size-of-requires
 size-of-requires c κs =
     let d = c .before .before .before .before .before .before .before .before .before .before .before .before .before .before .before .before .before .before .before .before .before .before in
-    item-known _ _ (d .before .before .before .before .before .before .before .before .before .pre .1) (d .record-in .ensures .0)
+    item-known _ _ (d .record-in .ensures .0) (d .before .before .before .before .before .before .before .before .before .pre .1)
 
 past-requires : tie.Need-past-requires
 past-requires c κs =
     let d = c .before .before .before .before .before .before .before .before .before .before .before .before .before .before .before .before .before .before .before .before .before .before .before in
     let p = d .before .before .before .before .before .before .before .before .before .pre in
-    item-room _ _ (p .1) (d .record-in .ensures .0) _ _ _ (c .before .before .before .before .before .before .before .before .before .before .before .before .before .before .before .take-record .ensures .at) (p .2) (c .size-of .ensures .0)
+    item-room _ _ (d .record-in .ensures .0) (p .1) _ _ _ (c .size-of .ensures .0) (c .before .before .before .before .before .before .before .before .before .before .before .before .before .before .before .take-record .ensures .at) (p .2)
 
 same-length : tie.Need-same-length
 same-length c = search needs
@@ -45,7 +46,7 @@ same-length-7 c = search needs
 returns : tie.Need-returns
 returns c =
     let d = c .before .before .before .before .before .before .before .before .before .before .before .before .before .before .before .before .before .before .before .before .before .before .before .before in
-    front-taken _ _ _ _ _ _ _ _ _ _ (d .before .before .before .before .before .before .before .before .before .pre .1) (d .record-in .ensures .0) (c .before .before .before .before .before .before .before .before .before .before .before .before .before .before .before .before .take-record .ensures) (c .before .size-of .ensures .0) (c .past .ensures)
+    front-taken _ _ _ _ _ _ _ _ _ _ (d .record-in .ensures .0) (c .before .before .before .before .before .before .before .before .before .before .before .before .before .before .before .before .take-record .ensures) (c .before .size-of .ensures .0) (c .past .ensures)
 
 pub take-front-spec : {M : Type 1} → statement M
 take-front-spec =
