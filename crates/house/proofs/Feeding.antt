@@ -13,9 +13,9 @@ use Rattle.records.specs.Records.{kindOf, sizeOf, isWhole, recordIn}
 use Rattle.records.proofs.Records.{size-some, whole-room}
 use Rattle.house.specs.declared.Making.{Making}
 use Rattle.house.specs.House.{Phase, leads, outcome, printing, reachedIn, reached}
-use Rattle.house.specs.Memory.{Refused, phaseOf, Before, nextPhase, phaseLeft, MadeSoFar, FedSheet}
+use Rattle.house.specs.Memory.{Refused, phaseOf, Before, phaseLeft, MadeSoFar, FedSheet}
 use Rattle.house.specs.Memory.Refused.{whole, unknown}
-use Rattle.house.specs.Taking.{refusing, moved, TookFront}
+use Rattle.house.specs.Taking.{refusing, moved, nextPhase, TookFront}
 use Rattle.house.proofs.Front.{frontOf, front-whole, front-unknown, front-cut, none-cut, rested}
 use Rattle.house.proofs.Walk.{reached-next}
 use Rattle.house.proofs.Taking.{moved-phase, moved-before, did-refused, did-on}
@@ -27,7 +27,7 @@ unfolding phaseLeft
 feed-start input start w g b z = record {
   within = omega arith;
   place = λ _. omega arith;
-  reaches = λ room h. rw z (unfold reachedIn in refl);
+  reaches = λ room h. rw (z, ne-eqb (start .state) 3 (λ e. omega (arith, b .awaits))) (unfold reachedIn in refl);
   refused = λ e. absurd (omega (arith, b .awaits));
   quiet = λ _. refl;
   still = λ _. record { state = λ _. refl; ranking = refl; stamp = refl; filled = refl; sheet = refl; lists = refl };
@@ -36,18 +36,18 @@ feed-start input start w g b z = record {
 }
 
 module _ {input : List ℕ} {start : Making} {w₀ : List ℕ} {g₀ : Group} {m : Making} {w : List ℕ} {g : Group} (f : MadeSoFar input start w₀ g₀ m w g) (waits : m .state ≤ 1) where
-  -- the phase of the record that comes next
-  phase-here : (room : ℕ) → phaseLeft room (phaseOf start w₀ g₀) m w g ≡ phaseOf m w g
+  -- more records of the sheet are awaited
+  pub phase-here : (room : ℕ) → phaseLeft room (phaseOf start w₀ g₀) m w g ≡ phaseOf m w g
   phase-here room = elim (ℕ-discrete (m .at) 0) [
     | yes z ↦ let s = f .still z in
-        unfold phaseLeft phaseOf in rw (eq-eqb (m .at) 0 z, s .state (λ e. omega arith), s .filled, s .ranking, s .stamp, s .sheet, s .lists)
+        unfold phaseLeft phaseOf in rw (ne-eqb (m .state) 3 (λ e. omega arith), eq-eqb (m .at) 0 z, s .state (λ e. omega arith), s .filled, s .ranking, s .stamp, s .sheet, s .lists)
     | no n ↦ unfold phaseLeft in rw (ne-eqb (m .at) 0 n, ne-eqb (m .state) 3 (λ e. omega arith))
   ]
 
   -- a refused one leaves it
   phase-refused : (room v : ℕ) → phaseLeft room (phaseOf start w₀ g₀) m w g ≡ phaseLeft room (phaseOf start w₀ g₀) (refusing m v) w g
   phase-refused room v = elim (ℕ-discrete (m .at) 0) [
-    | yes z ↦ unfold phaseLeft in rw (eq-eqb (m .at) 0 z)
+    | yes z ↦ unfold phaseLeft in rw (ne-eqb (m .state) 3 (λ e. omega arith), eq-eqb (m .at) 0 z)
     | no n ↦ unfold phaseLeft phaseOf in rw (ne-eqb (m .at) 0 n, ne-eqb (m .state) 3 (λ e. omega arith), ne-eqb (m .state) 0 (λ e. n (f .first e)))
   ]
 

@@ -1,6 +1,6 @@
 -- What a record keeps: the table made by calls, its rooms, and a row that holds no more than was given. Assumes nothing.
 use mathlib.Core.Path.{_≡_, refl, _∙_}
-use mathlib.Core.Bool.{Bool, true, false, cond, not}
+use mathlib.Core.Bool.{Bool, true, false, cond}
 use mathlib.Core.List.{List, [], _∷_}
 use Prim.Native.Nat.{ℕ, _+_, _≤_, _<_}
 use native.Mathlib.Omega.{arith}
@@ -8,8 +8,7 @@ use native.Mathlib.Decide.{decLt, ℕ-discrete}
 use lib.ListN.{length, getD, set}
 use lib.Seq.{sets, set-out, getD-set-same, getD-set-other}
 use lib.Dec.{eqb, ltb}
-use borrow.Author.Tests.{eqb-true, ltb-false, le-ltb, lt-ltb, not-true}
-use Rattle.theory.proofs.Lists.{and-left, and-right}
+use borrow.Author.Tests.{eqb-true, le-ltb, lt-ltb}
 use Rattle.lent.proofs.Refusals.{first-clear}
 use Rattle.selector.specs.Checks.{rowFits}
 use Rattle.table.specs.Tables.{Table}
@@ -19,6 +18,7 @@ use Rattle.covered.proofs.Reached.{covered-sound, enters-right}
 use Rattle.records.specs.declared.Record.{Record}
 use Rattle.records.specs.Rows.{countPlace, emptyRow, withTag, withId, withItem, itemOver}
 use Rattle.records.proofs.Rows.{room-left, item-length}
+use Rattle.gather.proofs.Ids.{fits-classes, fits-pseudos, row-fits}
 use Rattle.replies.specs.Walking.{walking, subjectOf, stampOf, itemFault, withFit, enteringVerdict, enteredIn, enterAfter, itemsAfter, tableAfter}
 use Rattle.replies.specs.Memory.{Ready}
 
@@ -57,15 +57,6 @@ module _ (w : List ℕ) (t : Table) (items : List ℕ) (y : Tabled w t) (parent 
 record Few (row : List ℕ) : Type 0 where
   classes : getD row 4 0 ≤ 16
   pseudos : getD row 5 0 ≤ 16
-
-fits-few : (row : List ℕ) → rowFits 16 row 0 ≡ true → Few row
-fits-few row e = record {
-  classes = ltb-false 16 (getD row 4 0) (not-true _ (and-left (not (ltb 16 (getD row 4 0))) _ e));
-  pseudos = ltb-false 16 (getD row 5 0) (not-true _ (and-right (not (ltb 16 (getD row 4 0))) _ e));
-}
-
-few-fits : (row : List ℕ) → Few row → rowFits 16 row 0 ≡ true
-few-fits row f = rw (le-ltb 16 (getD row 4 0) (f .classes), le-ltb 16 (getD row 5 0) (f .pseudos))
 
 set-most : (l : List ℕ) (i v j n : ℕ) → getD l j 0 ≤ n → (j ≡ i → v ≤ n) → getD (set l i v) j 0 ≤ n
 set-most l i v j n h g = elim (ℕ-discrete j i) [
@@ -125,10 +116,13 @@ unfolding withFit
 fit-rowed row which id y = by (eqb (itemFault row which) 0) refl
   where
     by : (b : Bool) → eqb (itemFault row which) 0 ≡ b → Rowed (cond b (withItem 16 which id row) row)
-    by true e = record {
-      long = item-length 16 which id row ∙ y .long;
-      fits = few-fits (withItem 16 which id row) (item-few which id row (fits-few row (y .fits)) (fault-over row which (eqb-true (itemFault row which) 0 e)));
-    }
+    by true e =
+        let before : Few row = record { classes = fits-classes 16 row 0 (y .fits); pseudos = fits-pseudos 16 row 0 (y .fits) } in
+        let after = item-few which id row before (fault-over row which (eqb-true (itemFault row which) 0 e)) in
+        record {
+          long = item-length 16 which id row ∙ y .long;
+          fits = row-fits 16 (withItem 16 which id row) 0 (after .classes) (after .pseudos);
+        }
     by false e = y
 
 -- ---- both

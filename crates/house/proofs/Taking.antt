@@ -25,8 +25,8 @@ use Rattle.gather.specs.Memory.{openOf, Roomy, Sound, Takes}
 use Rattle.replies.specs.Lines.{refusedLine}
 use Rattle.house.specs.declared.Making.{Making}
 use Rattle.house.specs.House.{first, making, stops, leads, emptySheet, firstVerdict, makingOutcome, outcome}
-use Rattle.house.specs.Memory.{phaseOf, Before, Stands, nextPhase}
-use Rattle.house.specs.Taking.{refusing, moved, did, Took, Past, TookFront}
+use Rattle.house.specs.Memory.{phaseOf, Before, Stands}
+use Rattle.house.specs.Taking.{refusing, moved, nextPhase, did, Took, Past, TookFront}
 use Rattle.house.proofs.Never.{build-never-refused}
 use Rattle.house.proofs.Front.{item-size}
 

@@ -158,11 +158,24 @@ module _ (room : ℕ) (ph : Phase) (off : ℕ) (a b : List ℕ) {text : List ℕ
   reached-append : reached room ph off (a ++ b) ≡ printing text (reached room next (off + length a) b)
   reached-append = append-turns room (length a) ph off a b (omega arith) (rw e) ∙ rw e
 
-  -- THE LAW: what the bytes that were taken print, and then what is printed from where they lead
-  pub walk-reached : walkFrom room ph off (a ++ b) ≡ text ++ walkFrom room next (off + length a) b
+  walk-reached : walkFrom room ph off (a ++ b) ≡ text ++ walkFrom room next (off + length a) b
   walk-reached =
       let z : off + length (a ++ b) ≡ off + length a + length b = omega (arith, length-append a b) in
       rw (reached-append, z) (after-printing (λ p. ending p (off + length a + length b)) text (reached room next (off + length a) b))
+
+-- THE LAW: what the bytes up to `at` print, and then what the rest prints, whatever comes after the piece
+pub walk-on : (room : ℕ) (ph : Phase) (off at : ℕ) (input more : List ℕ) {text : List ℕ} {next : Phase}
+    → reached room ph off (take at input) ≡ leads text next
+    → at ≤ length input
+    → (place : ℕ)
+    → place ≡ off + at
+    → walkFrom room ph off (input ++ more) ≡ text ++ walkFrom room next place (drop at input ++ more)
+walk-on room ph off at input more {text} {next} e h place p =
+    let n : off + length (take at input) ≡ place = ap (λ (k : ℕ). off + k) (length-take-le at input h) ∙ sym p in
+    ap (λ (l : List ℕ). walkFrom room ph off (l ++ more)) (sym (take-append-drop at input))
+    ∙ ap (walkFrom room ph off) (append-assoc (take at input) (drop at input) more)
+    ∙ walk-reached room ph off (take at input) (drop at input ++ more) e
+    ∙ ap (λ (k : ℕ). text ++ walkFrom room next k (drop at input ++ more)) n
 
 -- ---- one record more
 

@@ -54,13 +54,9 @@ pub record Stands (m : Making) (w : List ℕ) (g : Group) : Type 0 where
   pub known : m .state ≤ 3
   pub room : Roomy g
 
--- the phase that an accepted record has led to
-abbrev pub nextPhase : ℕ → Making → List ℕ → Group → Phase
-nextPhase room m w g = cond (eqb (m .state) 3) (walks (built-of room w (m .ranking) (m .stamp))) (phaseOf m w g)
-
--- the phase of the record that comes next, or that was refused: `start` where none was taken
+-- the phase of the record that comes next, or that was refused: the walk at the sheet's end (3), `start` where none was taken
 unfoldable pub phaseLeft : ℕ → Phase → Making → List ℕ → Group → Phase
-phaseLeft room start m w g = cond (eqb (m .at) 0) start (nextPhase room m w g)
+phaseLeft room start m w g = cond (eqb (m .state) 3) (walks (built-of room w (m .ranking) (m .stamp))) (cond (eqb (m .at) 0) start (phaseOf m w g))
 
 -- none was taken: nothing is changed, except that the first may be refused
 pub record Still (m : Making) (w : List ℕ) (g : Group) (m′ : Making) (w′ : List ℕ) (g′ : Group) : Type 0 where

@@ -9,8 +9,8 @@ use Rattle.records.specs.declared.Record.{Record}
 use Rattle.records.specs.Records.{kindOf, sizeOf, recordIn}
 use Rattle.replies.specs.Lines.{refusedLine}
 use Rattle.house.specs.declared.Making.{Making}
-use Rattle.house.specs.House.{Outcome, stops, leads, outcome}
-use Rattle.house.specs.Memory.{phaseOf, Stands, nextPhase}
+use Rattle.house.specs.House.{Phase, walks, Outcome, stops, leads, built-of, outcome}
+use Rattle.house.specs.Memory.{phaseOf, Stands}
 
 -- refused there
 abbrev pub refusing : Making → ℕ → Making
@@ -19,6 +19,10 @@ refusing m verdict = record { state = 2; ranking = m .ranking; stamp = m .stamp;
 -- the same, at another place
 abbrev pub moved : Making → ℕ → ℕ → Making
 moved m offset at = record { state = m .state; ranking = m .ranking; stamp = m .stamp; verdict = m .verdict; offset = offset; at = at; filled = m .filled }
+
+-- the phase that an accepted record has led to
+abbrev pub nextPhase : ℕ → Making → List ℕ → Group → Phase
+nextPhase room m w g = cond (eqb (m .state) 3) (walks (built-of room w (m .ranking) (m .stamp))) (phaseOf m w g)
 
 -- what the record did that has left this
 unfoldable pub did : ℕ → Making → List ℕ → Group → Outcome

@@ -53,7 +53,7 @@ pub feeds-first : {l : List ℕ} {n : ℕ} {m : Making} {w : List ℕ} {g : Grou
     → FedSheet l m w g m′ w′ g′
     → length l ≡ n
     → Feeds n m′ w′ g′
-feeds-first f h = record { within = omega (arith, f .within); before = f .before; ready = f .ready }
+feeds-first f h = record { within = omega (arith, f .made .within); before = f .made .stands .before; ready = f .made .stands .ready }
 
 pub feeds-reads : {n size : ℕ} {m : Making} {w : List ℕ} {g : Group} {over : Bool}
     → n ≤ size
@@ -94,11 +94,11 @@ turning-next e t h d = record { reads = reads-size e t; awaits = h d }
 
 -- ---- after kind 8
 
-pub walked-first : {l : List ℕ} {n offset : ℕ} {w : List ℕ} {t : Table} {items : List ℕ} {r : Walked} {out′ : List ℕ} {t′ : Table} {items′ : List ℕ}
-    → FedWalk l offset w t items r out′ t′ items′
+pub walked-first : {l : List ℕ} {n offset : ℕ} {w : List ℕ} {t : Table} {items out : List ℕ} {r : Walked} {out′ : List ℕ} {t′ : Table} {items′ : List ℕ}
+    → FedWalk l offset w t items out r out′ t′ items′
     → length l ≡ n
     → (r .at ≤ n) × Ready w t′ items′
-walked-first f h = (omega (arith, f .within), f .ready)
+walked-first f h = (omega (arith, f .walked .within), f .walked .ready)
 
 -- the table built in zeroed memory, and no items
 module _ (w : List ℕ) (stamp ranking : ℕ) where

@@ -36,7 +36,7 @@ pub build-has-room : {input : List ℕ} {m : Making} {w : List ℕ} {g : Group} 
     → FedSheet input m w g m′ w′ g′
     → m′ .state ≡ 3
     → buildVerdict w′ (m′ .ranking) (lentTable room .states) (lentTable room .cursors) ≡ 0
-build-has-room {m′ = m′} {w′ = w′} room f e = let (shape, ranks) = f .ready e in build-never-refused w′ (m′ .ranking) room shape ranks
+build-has-room {m′ = m′} {w′ = w′} room f e = let (shape, ranks) = f .made .stands .ready e in build-never-refused w′ (m′ .ranking) room shape ranks
 
 module _ (w : List ℕ) (t : Table) (e : (sheetShape w ≡ true) × (tableShape w t ≡ true)) (old new : ℕ) where
   -- those that change are among the properties of rules that one side alone lists

@@ -23,7 +23,7 @@ use Rattle.gather.specs.Opened.{Open, nothing}
 use Rattle.gather.specs.Making.{makingVerdict, sheetAfter, openAfter}
 use Rattle.replies.specs.Lines.{refusedLine, stateLine, changedLine, winnerLine}
 use Rattle.replies.specs.Walking.{Walking, walking, subjectOf, printed, itemFault, enteringVerdict, childIn, enteredIn, enterAfter, changingVerdict, winningVerdict, walkingVerdict, acceptedLine, walkingLine, itemsAfter, tableAfter, walkingAfter, ends}
-use Rattle.house.specs.House.{Phase, first, making, walks, emptySheet, lentTable, Outcome, stops, leads, unless, firstVerdict, built-of, makingOutcome, outcome, ending, after, walkIn, walkOf}
+use Rattle.house.specs.House.{Phase, first, making, walks, emptySheet, lentTable, Outcome, stops, leads, unless, firstVerdict, built-of, makingOutcome, outcome, printing, onward, reachedIn, ending, after, walkOf}
 use Rattle.walked.proofs.Never.{changed-is-pair}
 use Rattle.walked.proofs.Alike.{Alike, built-alike, same-rules, same-state, same-pair, same-enter, same-child, entered-alike, same-listed}
 
@@ -156,6 +156,18 @@ after-both : {o o′ : Outcome} → Both o o′ → (f f′ : Phase → List ℕ
 after-both (stop text) f f′ h = refl
 after-both (lead text {p = p} {p′ = p′} t) f f′ h = ap (λ (l : List ℕ). text ++ l) (h p p′ t)
 
+printing-both : (lines : List ℕ) {o o′ : Outcome} → Both o o′ → Both (printing lines o) (printing lines o′)
+printing-both lines (stop text) = stop (lines ++ text)
+printing-both lines (lead text t) = lead (lines ++ text) t
+
+onward-both : {o o′ : Outcome} → Both o o′ → (f f′ : Phase → Outcome) → ((p p′ : Phase) → Twin p p′ → Both (f p) (f′ p′)) → Both (onward f o) (onward f′ o′)
+onward-both (stop text) f f′ h = stop text
+onward-both (lead text {p = p} {p′ = p′} t) f f′ h = printing-both text (h p p′ t)
+
+whole-both : (b : Bool) (line : List ℕ) {o o′ : Outcome} → Both o o′ → Both (cond b o (stops line)) (cond b o′ (stops line))
+whole-both true line t = t
+whole-both false line t = stop line
+
 ending-same : {p p′ : Phase} → Twin p p′ → (offset : ℕ) → ending p offset ≡ ending p′ offset
 ending-same none offset = refl
 ending-same (makes w o ranking stamp) offset = refl
@@ -197,15 +209,16 @@ module _ (r r′ : ℕ) where
   outcome-both (goes {w = w} {t = t} {t′ = t′} items a) offset x =
       ends-both (ends (walking w t items) x) (ends (walking w t′ items) x) (walkingLine (walking w t items) offset x) (walkingLine (walking w t′ items) offset x) (same-ends a items x) (same-line a items offset x) (walk-twin items a x)
 
-  walks-same : (turns : ℕ) {p p′ : Phase} → Twin p p′ → (offset : ℕ) (bytes : List ℕ) → walkIn r turns p offset bytes ≡ walkIn r′ turns p′ offset bytes
-  unfolding walkIn
-  walks-same zero t offset bytes = refl
-  walks-same (suc turns) t offset [] = ending-same t offset
-  walks-same (suc turns) t offset (b ∷ l) =
-      ap (λ (z : List ℕ). cond (isWhole (b ∷ l)) z (refusedLine 10 offset))
-      (after-both (outcome-both t offset (recordIn (b ∷ l))) (λ next. walkIn r turns next (offset + sizeOf b) (drop (sizeOf b) (b ∷ l))) (λ next. walkIn r′ turns next (offset + sizeOf b) (drop (sizeOf b) (b ∷ l)))
-      (λ p p′ u. walks-same turns u (offset + sizeOf b) (drop (sizeOf b) (b ∷ l))))
+  reached-both : (turns : ℕ) {p p′ : Phase} → Twin p p′ → (offset : ℕ) (bytes : List ℕ) → Both (reachedIn r turns p offset bytes) (reachedIn r′ turns p′ offset bytes)
+  unfolding reachedIn
+  reached-both zero t offset bytes = lead [] t
+  reached-both (suc turns) t offset [] = lead [] t
+  reached-both (suc turns) t offset (b ∷ l) =
+      whole-both (isWhole (b ∷ l)) (refusedLine 10 offset)
+      (onward-both (outcome-both t offset (recordIn (b ∷ l))) (λ next. reachedIn r turns next (offset + sizeOf b) (drop (sizeOf b) (b ∷ l))) (λ next. reachedIn r′ turns next (offset + sizeOf b) (drop (sizeOf b) (b ∷ l)))
+      (λ p p′ u. reached-both turns u (offset + sizeOf b) (drop (sizeOf b) (b ∷ l))))
 
 -- THE THEOREM: whatever room is lent for transitions, the output is the same
 pub room-never-tells : (r r′ : ℕ) (input : List ℕ) → walkOf r input ≡ walkOf r′ input
-room-never-tells r r′ input = walks-same r r′ (suc (length input)) none 0 input
+room-never-tells r r′ input =
+    after-both (reached-both r r′ (length input) none 0 input) (λ next. ending next (0 + length input)) (λ next. ending next (0 + length input)) (λ p p′ t. ending-same t (0 + length input))

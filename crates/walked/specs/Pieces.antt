@@ -19,13 +19,13 @@ module _ (room : ℕ) where
   -- What is printed from here on: `left` is what the last call left of its piece, and each piece that comes is put after it. A call that ends neither the
   -- program nor its part leads on; at the input's end, what is left is no whole record
   pub data WalkRun (w : List ℕ) : ℕ → Table → List ℕ → List ℕ → List (List ℕ) → List ℕ → Type 0 where
-    goes : {offset : ℕ} {t : Table} {items left : List ℕ} (piece : List ℕ) {pieces : List (List ℕ)} (r : Walked) (out : List ℕ) (t′ : Table) (items′ : List ℕ) {printed : List ℕ}
-        → FedWalk (left ++ piece) offset w t items r out t′ items′
+    goes : {offset : ℕ} {t : Table} {items left : List ℕ} (piece : List ℕ) {pieces : List (List ℕ)} (buffer : List ℕ) (r : Walked) (out : List ℕ) (t′ : Table) (items′ : List ℕ) {printed : List ℕ}
+        → FedWalk (left ++ piece) offset w t items buffer r out t′ items′
         → r .ends ≡ false
         → WalkRun w (r .offset) t′ items′ (drop (r .at) (left ++ piece)) pieces printed
         → WalkRun w offset t items left (piece ∷ pieces) (take (r .used) out ++ printed)
-    ends : {offset : ℕ} {t : Table} {items left : List ℕ} (piece : List ℕ) {pieces : List (List ℕ)} (r : Walked) (out : List ℕ) (t′ : Table) (items′ : List ℕ)
-        → FedWalk (left ++ piece) offset w t items r out t′ items′
+    ends : {offset : ℕ} {t : Table} {items left : List ℕ} (piece : List ℕ) {pieces : List (List ℕ)} (buffer : List ℕ) (r : Walked) (out : List ℕ) (t′ : Table) (items′ : List ℕ)
+        → FedWalk (left ++ piece) offset w t items buffer r out t′ items′
         → r .ends ≡ true
         → WalkRun w offset t items left (piece ∷ pieces) (take (r .used) out)
     over : {offset : ℕ} {t : Table} {items : List ℕ} → WalkRun w offset t items [] [] []
