@@ -89,7 +89,7 @@ module _ (steps : List ℕ) (n : ℕ) (combinators : List ℕ) (c : ℕ) (path :
   pub matches-level3 : (r : ℕ → Matching) → ((j : ℕ) → j ≤ m → matchingTold (r j) ≡ matchingOf steps n combinators c (drop (38 * j) path) (m - j))
       → ((j : ℕ) × (j ≤ m) × (r j ≡ Yes)) ↔ RepresentsLast (selectorOf steps combinators n) (pathOf path m)
   matches-level3 r e =
-      let law = tails-fit steps n combinators c path m some accepts in
+      let law = tails-fit steps n combinators path m some in
       let yes : (j : ℕ) → j ≤ m → (r j ≡ Yes) ↔ (fits steps n combinators (drop (38 * j) path) (m - j) ≡ true) =
       λ j h. yes-fits steps n combinators c (drop (38 * j) path) (m - j) (tail-accepted path m j h steps n combinators c accepts) (r j) (e j h) in
       (λ (j, h, q). law .0 (j, h, yes j h .0 q), λ l. let (j, h, t) = law .1 l in (j, h, yes j h .1 t))
@@ -97,7 +97,7 @@ module _ (steps : List ℕ) (n : ℕ) (combinators : List ℕ) (c : ℕ) (path :
   pub diagnoses-level3 : (d : ℕ → Diagnosis) → ((j : ℕ) → j ≤ m → diagnosisTold (d j) ≡ diagnosisOf steps n combinators c (drop (38 * j) path) (m - j))
       → ((j : ℕ) × (j ≤ m) × (d j ≡ diagnosis.Fits)) ↔ RepresentsLast (selectorOf steps combinators n) (pathOf path m)
   diagnoses-level3 d f =
-      let law = tails-fit steps n combinators c path m some accepts in
+      let law = tails-fit steps n combinators path m some in
       let fit : (j : ℕ) → j ≤ m → (d j ≡ diagnosis.Fits) ↔ (fits steps n combinators (drop (38 * j) path) (m - j) ≡ true) =
       λ j h. diagnosed-fits steps n combinators c (drop (38 * j) path) (m - j) (tail-accepted path m j h steps n combinators c accepts) (d j) (f j h) in
       (λ (j, h, q). law .0 (j, h, fit j h .0 q), λ l. let (j, h, t) = law .1 l in (j, h, fit j h .1 t))

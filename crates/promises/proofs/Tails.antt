@@ -28,7 +28,7 @@ use Rattle.selector.specs.Checks.{rowFits, selectorOver, pathOver, combinatorsO
 use Rattle.selector.specs.Matching.{fitsFrom, fits, matchingTold, yesNo, matchingOf}
 use Rattle.selector.specs.Diagnosing.{diagnosisTold, diagnosisOf}
 use Rattle.selector.proofs.Agree.{diagnosis-fits}
-use Rattle.selector.proofs.Answers.{accepted, told-is}
+use Rattle.selector.proofs.Answers.{told-is}
 use Rattle.selector.proofs.Distinct.{matching-distinct, diagnosis-distinct}
 use Rattle.selector.proofs.Fitting.{subject-drop, fits-level3}
 use Rattle.promises.specs.Level3.{RepresentsLast}
@@ -111,17 +111,16 @@ false-true : {A : Type 0} → false ≡ true → A
 false-true e = absurd (let z : _≡_ {A = ℕ} 0 1 = cc in omega arith)
 
 -- it fits exactly if the selector represents the last element
-pub tails-fit : (steps : List ℕ) (n : ℕ) (combinators : List ℕ) (c : ℕ) (path : List ℕ) (m : ℕ) → 0 < n → pathVerdict steps n combinators c path m ≡ 0
+pub tails-fit : (steps : List ℕ) (n : ℕ) (combinators path : List ℕ) (m : ℕ) → 0 < n
     → ((j : ℕ) × (j ≤ m) × (fits steps n combinators (drop (38 * j) path) (m - j) ≡ true)) ↔ RepresentsLast (selectorOf steps combinators n) (pathOf path m)
 unfolding selectorOf pathOf
-tails-fit steps zero combinators c path m some z = absurd (omega arith)
-tails-fit steps (suc n) combinators c path zero some z = (
+tails-fit steps zero combinators path m some = absurd (omega arith)
+tails-fit steps (suc n) combinators path zero some = (
   λ (j, h, t). let e : 0 - j ≡ 0 = omega arith in false-true (sym (none-fits steps n combinators (drop (38 * j) path)) ∙ rw e at t),
   λ l. absurd l,
 )
-tails-fit steps (suc n) combinators c path (suc m) some z =
-    let e : suc n - 1 ≡ n = omega arith in
-    let law = fits-level3 steps n combinators path m (rw e at (accepted steps (suc n) combinators c path (suc m) _ refl z .codes)) in
+tails-fit steps (suc n) combinators path (suc m) some =
+    let law = fits-level3 steps n combinators path m in
     (λ (j, h, t). law .0 (j, t), λ l. let (j, t) = law .1 l in (j, within j t, t))
   where
     within : (j : ℕ) → fits steps (suc n) combinators (drop (38 * j) path) (suc m - j) ≡ true → j ≤ suc m

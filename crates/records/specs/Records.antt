@@ -1,6 +1,6 @@
 -- House records in bytes: 01, "House records and the program `walk`". Assumes nothing.
-use mathlib.Core.Path.{_≡_}
-use mathlib.Core.Bool.{Bool, _&&_}
+use mathlib.Core.Path.{_≡_, refl}
+use mathlib.Core.Bool.{Bool, true, false, _&&_}
 use mathlib.Core.List.{List, [], _∷_}
 use Prim.Native.Nat.{ℕ, _+_, _*_, _<_}
 use lib.ListN.{length, getD, take, drop}
@@ -65,3 +65,17 @@ recordIn bytes =
 pub record Narrow (r : Record) : Type 0 where
   pub entry : r .kind ≡ 7 → r .first < 65536
   pub winner : r .kind ≡ 12 → r .second < 65536
+
+-- ---- for example: state 258 and property 1, and the same without its last byte
+
+winner-read : recordIn (12 ∷ 2 ∷ 1 ∷ 0 ∷ 0 ∷ 1 ∷ 0 ∷ []) ≡ record { kind = 12; first = 258; second = 1; third = 0 }
+unfolding recordIn width littleEndian
+winner-read = refl
+
+winner-whole : isWhole (12 ∷ 2 ∷ 1 ∷ 0 ∷ 0 ∷ 1 ∷ 0 ∷ []) ≡ true
+unfolding isWhole sizeOf width
+winner-whole = refl
+
+winner-cut : isWhole (12 ∷ 2 ∷ 1 ∷ 0 ∷ 0 ∷ 1 ∷ []) ≡ false
+unfolding isWhole sizeOf width
+winner-cut = refl

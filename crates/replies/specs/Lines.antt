@@ -1,5 +1,5 @@
 -- The lines that `walk` prints, as bytes: 01, "House records and the program `walk`". Assumes nothing.
-use mathlib.Core.Path.{_≡_}
+use mathlib.Core.Path.{_≡_, refl}
 use mathlib.Core.Bool.{cond}
 use mathlib.Core.Option.{Option, none, some}
 use mathlib.Core.List.{List, [], _∷_, _++_, flatMap}
@@ -95,3 +95,13 @@ winnerLine w p won = WINNER ++ (decimal p ++ (sourceText w won ++ END))
 pub record Said (text before : List ℕ) (at r : ℕ) (after : List ℕ) : Type 0 where
   pub next : r ≡ at + length text
   pub whole : after ≡ sets before at text
+
+-- ---- for example: "state 2 matched 2: 0 1", "refused 10 at 120"
+
+state-said : stateLine 2 (0 ∷ 1 ∷ []) ≡ 115 ∷ 116 ∷ 97 ∷ 116 ∷ 101 ∷ 32 ∷ 50 ∷ 32 ∷ 109 ∷ 97 ∷ 116 ∷ 99 ∷ 104 ∷ 101 ∷ 100 ∷ 32 ∷ 50 ∷ 58 ∷ 32 ∷ 48 ∷ 32 ∷ 49 ∷ 10 ∷ []
+unfolding stateLine decimalIn spaced flatMap
+state-said = refl
+
+refusal-said : refusedLine 10 120 ≡ 114 ∷ 101 ∷ 102 ∷ 117 ∷ 115 ∷ 101 ∷ 100 ∷ 32 ∷ 49 ∷ 48 ∷ 32 ∷ 97 ∷ 116 ∷ 32 ∷ 49 ∷ 50 ∷ 48 ∷ 10 ∷ []
+unfolding refusedLine decimalIn
+refusal-said = refl
