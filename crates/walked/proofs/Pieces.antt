@@ -4,7 +4,7 @@ use mathlib.Core.Bool.{Bool, true, false, cond}
 use mathlib.Core.List.{List, [], _∷_, _++_, flatten, append-nil, append-assoc}
 use Prim.Native.Nat.{ℕ, _+_, _≤_, _<_}
 use native.Mathlib.Omega.{arith}
-use lib.ListN.{length, drop, length-append}
+use lib.ListN.{length, take, drop, length-append}
 use lib.Dec.{eqb}
 use Rattle.given.specs.Given.{Group}
 use Rattle.table.specs.Tables.{Table}
@@ -50,22 +50,24 @@ module _ (room : ℕ) where
   walk-run : {w : List ℕ} {offset : ℕ} {t : Table} {items left : List ℕ} {pieces : List (List ℕ)} {printed : List ℕ} → Below offset (left ++ flatten pieces) → WalkRun room w offset t items left pieces printed
       → walkFrom room (walks (walking w t items)) offset (left ++ flatten pieces) ≡ printed
   unfolding flatten
-  walk-run {w} {offset} {t} {items} b (goes {left = left} piece {pieces = pieces} buffer r out t′ items′ f e rest) =
+  walk-run {w} {offset} {t} {items} b (goes {left = left} piece {pieces = pieces} buffer r out t′ items′ {printed = printed} f e rest) =
       let q = append-assoc left piece (flatten pieces) in
       let x = f .walked in
       let l = x .lines in
+      let held : take (r .used) out ≡ l = x .prints ∙ rw e (append-nil l) in
       let (h, p, c) = reach-place offset (r .offset) (r .at) (left ++ piece) (flatten pieces) (rw q b) (x .within) (x .place) in
       rw (← q) (walk-on room (walks (walking w t items)) offset (r .at) (left ++ piece) (flatten pieces) (x .reaches room h) (x .within) (r .offset) p
       ∙ ap (λ (z : List ℕ). l ++ z) (walk-run c rest)
-      ∙ ap (λ (z : List ℕ). z ++ _) (sym (x .prints ∙ rw e (append-nil l))))
+      ∙ ap (λ (z : List ℕ). z ++ printed) (sym held))
   walk-run {w} {offset} {t} {items} b (ends {left = left} piece {pieces = pieces} buffer r out t′ items′ f e) =
       let q = append-assoc left piece (flatten pieces) in
       let x = f .walked in
       let l = x .lines in
+      let held : take (r .used) out ≡ l ++ refusedLine 10 (r .offset) = x .prints ∙ rw e in
       let (h, p, c) = reach-place offset (r .offset) (r .at) (left ++ piece) (flatten pieces) (rw q b) (x .within) (x .place) in
       rw (← q) (walk-on room (walks (walking w t items)) offset (r .at) (left ++ piece) (flatten pieces) (x .reaches room h) (x .within) (r .offset) p
       ∙ ap (λ (z : List ℕ). l ++ z) (walk-refused (x .refused e room) (flatten pieces))
-      ∙ sym (x .prints ∙ rw e))
+      ∙ sym held)
   walk-run {w} b (over {offset = offset} {t = t} {items = items}) = walk-end room (walks (walking w t items)) offset
   walk-run {w} b (cut {offset = offset} {t = t} {items = items} c left h) =
       ap (λ (l : List ℕ). walkFrom room (walks (walking w t items)) offset (c ∷ l)) (append-nil left) ∙ walk-cut room (walks (walking w t items)) offset (c ∷ left) h (omega arith)
