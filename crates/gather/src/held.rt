@@ -11,6 +11,7 @@ use lent::words::put;
 use lent::words::wide;
 use lent::words::word;
 use records::Record;
+use records::held::half;
 use records::held::item_over;
 use records::held::put_item;
 use sheet::layout;
@@ -303,13 +304,6 @@ fn style_entries(f: Filled, rules: &[u32]) -> usize
         return f.entries;
     }
     wide(word(rules, 3 * f.rules - 3 + 2))
-}
-
-fn half(x: u32) -> u16
-    requires { ⌜ x < 65536 ⌝ }
-    ensures { λ r. ⌜ r ≡ x ⌝ }
-{
-    x as u16
 }
 
 // One more entry of the last rule; a direct style has no such count.
