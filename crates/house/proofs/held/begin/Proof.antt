@@ -26,7 +26,7 @@ same-length : tie.Need-same-length
 same-length c = search needs
 
 returns-3 : tie.Need-returns-3
-returns-3 c = λ g b z. search (begin-taken, needs)
+returns-3 c = λ g b z. begin-taken _ _ g b z _ _ (search needs) (search needs) (search needs)
 
 pub begin-spec : {M : Type 1} → statement M
 begin-spec =
