@@ -1,4 +1,4 @@
--- What is at the front of the rest of a piece, after kind 8, and one step over lent memory. Assumes nothing.
+-- What is at the front of the rest of a piece, after kind 8, and one step over lent memory. For contracts within and cores alone. Assumes nothing.
 use mathlib.Core.Path.{_≡_}
 use mathlib.Core.Bool.{Bool, cond, true, false}
 use mathlib.Core.List.{List}

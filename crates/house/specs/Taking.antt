@@ -1,4 +1,4 @@
--- One record of those up to kind 8, over lent memory. Assumes nothing.
+-- One record of those up to kind 8, over lent memory. For contracts within and cores alone. Assumes nothing.
 use mathlib.Core.Path.{_≡_}
 use mathlib.Core.Bool.{cond}
 use mathlib.Core.List.{List, []}

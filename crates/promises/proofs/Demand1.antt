@@ -1,11 +1,12 @@
 -- Demand 1: "Each public call takes all input, ends, and checks for itself: bad input gets 01's numbered refusal exactly when 01 says, and a refused call changes
 -- no lent memory." Assumes nothing.
--- That a call takes all input and ends is what the checker shows of each: outside the modules `held` no contract has a `requires`, and a contract is proved of a
--- function only if it ends. Here, of each call that can refuse, by its contract: its checks, in the order that 01 gives them; the first whose test holds gives
+-- That a call takes all input and ends is what the checker shows of each: no public function outside the modules `held` has a `requires`, and a contract is
+-- proved of a function only if it ends. Here, of each call that can refuse, by its contract: its checks, in the order that 01 gives them; the first whose test holds gives
 -- the number, which is told alone; where none holds, and only there, the call is accepted; and what was lent to write is left as it was by a refusal.
 -- `Refusing checks told` says so of what the answer tells, `Guarding checks told before after` of that and of memory. There is always one number or none
 -- (Ladders.antt, `decided`, `one-number`). Each test is defined in the specs/ of its crate, under its line of 01's table; w is a sheet's words, t a table's.
--- Refusal 10 is of house records, which no call here takes. Demand1Rest.antt has the calls for which 01's "Order" has no line.
+-- Demand1Rest.antt has the calls for which 01's "Order" has no line. Refusal 10 is of house records, which no call here takes: `walkOf` (house, specs/House) says when,
+-- and `pieces-print` (walked) that it is printed. The calls that tell a verdict (`admit`, `matcher::states`) have the verdict itself for their contract.
 use mathlib.Core.Path.{_≡_, refl, _∙_}
 use mathlib.Core.Logic.{_↔_, _⊎_}
 use mathlib.Core.Bool.{true, not}

@@ -173,7 +173,7 @@ module _ (ids : List ℕ) (n : ℕ) where
   unfolding countVerdict
   set-len-refuses r e = refusing refl (_, refl) e
 
-  pub set-is-empty-refuses : (r : SetEmptiness.Emptiness) → Sets.emptinessTold r ≡ answered (countVerdict ids n) (0 ∷ oneIf (eqb n 0) ∷ [])
+  pub set-is-empty-refuses : (r : SetEmptiness.Emptiness) → Sets.emptinessTold r ≡ answered (countVerdict ids n) (0 ∷ oneIf (eqb (length (setOf ids n)) 0) ∷ [])
       → Refusing (check 2 (ltb (length ids) n) ∷ []) (Sets.emptinessTold r)
   unfolding countVerdict
   set-is-empty-refuses r e = refusing refl (_, refl) e
