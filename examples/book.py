@@ -210,16 +210,10 @@ def faces(sheet, order, folder):
 
 def show(tables):
     left, right = tables
-    kinds = [path for path in left if path[-1].split(".")[0] not in ("body", "section", "blockquote")]
-    print(f"Alice's Adventures in Wonderland, walked in the order of chapters {ORDERS[0]}, and then {ORDERS[1]}:")
-    print(f"{'element':<26}{'state':>5}  {'face, ' + ORDERS[0]:<28}{'state':>5}  face, {ORDERS[1]}")
+    kinds = [path for path in left if path[-1].split(".")[0] not in ("body", "section", "blockquote", "a:link")]
+    print(f"{'Alice in Wonderland':<26}{'state':>5}  {'face, chapters ' + ORDERS[0]:<28}{'state':>5}  face, chapters {ORDERS[1]}")
     for path in kinds:
         print(f"{' > '.join(path[2:]):<26}{left[path][0]:>5}  {left[path][2]:<28}{right[path][0]:>5}  {right[path][2]}")
-    for path in kinds:
-        if path[-1] == "em":
-            ids = left[path][3].split()[2:]
-            names = ", ".join(name for name in PROPERTIES if str(PROPERTIES[name]) in ids)
-            print(f"from {' > '.join(path[2:-1])} into em: another source wins {names}")
     moved = sum(left[path][0] != right[path][0] for path in kinds)
     different = [path for path in left if left[path][1:] != right[path][1:]]
     for path in different:
@@ -227,7 +221,7 @@ def show(tables):
     if different or left.keys() != right.keys():
         print("The two orders do not agree.")
         return 1
-    print(f"{moved} of {len(kinds)} have another state number in the other order; the winners, and so the faces, are the same.")
+    print(f"{moved} of {len(kinds)} have another state number in the other order; winners, changes and so the faces are the same.")
     return 0
 
 
