@@ -1,10 +1,4 @@
 pub mod Walk
 pub mod Never
 pub mod Front
-pub mod Taking
-pub mod Feeding
-pub mod Rows
-pub mod Long
-pub mod Ends
-pub mod Walking
 pub mod Starting

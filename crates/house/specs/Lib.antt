@@ -1,4 +1,2 @@
 pub mod House
 pub mod Memory
-pub mod Taking
-pub mod Answering

@@ -2,7 +2,6 @@
 use gather::Filled;
 
 pub mod held;
-mod pace;
 
 // How far the records have come, up to kind 8: none yet (0), a sheet in the making (1), refused (2), the sheet's end (3). `offset` is that of the
 // next record, or of the refused one; `at` is where the next begins in the piece.

@@ -2,8 +2,8 @@
 use gather::Filled;
 use house::Making;
 use house::Walked;
-use house::held::feed_sheet;
-use house::held::feed_walk;
+use making::held::feed_sheet;
+use walking::held::feed_walk;
 use replies::held::refuse;
 use screen::held::fill;
 use screen::held::shift;

@@ -17,7 +17,7 @@ use Rattle.house.specs.House.{Phase, first, making, walks, built-of, ending, wa
 use Rattle.house.specs.Memory.{Below, phaseOf, phaseLeft, FedSheet}
 use Rattle.house.proofs.Walk.{walk-cut, walk-end, walk-refused, walk-on}
 use Rattle.house.proofs.Front.{rest-below}
-use Rattle.house.proofs.Feeding.{phase-here}
+use Rattle.making.proofs.Feeding.{phase-here}
 use Rattle.walked.specs.Pieces.{WalkRun, SheetRun}
 use Rattle.walked.specs.Pieces.WalkRun.{goes, ends, over, cut}
 use Rattle.walked.specs.Pieces.SheetRun.{goes as goes-on, refused, ready, over as comes-to-end}

@@ -1,0 +1,4 @@
+pub mod Walking
+pub mod Rows
+pub mod Long
+pub mod Ends

@@ -1,0 +1,48 @@
+-- What is at the front of the rest of a piece, after kind 8, and one step over lent memory. For contracts within and cores alone. Assumes nothing.
+use mathlib.Core.Path.{_≡_}
+use mathlib.Core.Bool.{Bool, cond, true, false}
+use mathlib.Core.List.{List}
+use Prim.Native.Nat.{ℕ, _+_, _≤_, _<_}
+use lib.ListN.{length, drop}
+use Rattle.table.specs.Tables.{Table}
+use Rattle.records.specs.Records.{known, kindOf, sizeOf, isWhole, recordIn}
+use Rattle.replies.specs.Lines.{refusedLine, Said}
+use Rattle.replies.specs.Walking.{walking}
+use Rattle.replies.specs.Memory.{Replies}
+use Rattle.house.specs.declared.Walked.{Walked}
+use Rattle.house.specs.Memory.{Cut}
+
+-- after a reply: the place is that after the record, unless it ends the program
+abbrev pub pastReply : Walked → ℕ → ℕ → ℕ → Bool → Walked
+pastReply v at offset used ends = record { at = cond ends (v .at) at; offset = cond ends (v .offset) offset; used = used; ends = ends }
+
+-- the reply, and the place
+pub record Answers (bytes w : List ℕ) (t : Table) (items : List ℕ) (v : Walked) (out : List ℕ) (r : Walked) (out′ : List ℕ) (t′ : Table) (items′ : List ℕ) : Type 0 where
+  pub replies : Replies (walking w t items) (v .offset) (recordIn bytes) out (v .used) (record { used = r .used; ends = r .ends }) out′ t′ items′
+  pub stays : r .ends ≡ true → (r .at ≡ v .at) × (r .offset ≡ v .offset)
+  pub goes : r .ends ≡ false → r .at ≡ v .at + sizeOf (kindOf bytes)
+  pub reach : r .ends ≡ false → v .offset + sizeOf (kindOf bytes) < 18446744073709551616 → r .offset ≡ v .offset + sizeOf (kindOf bytes)
+
+-- a step: a record answered, or a byte that is no kind refused
+pub data Steps (bytes w : List ℕ) (t : Table) (items : List ℕ) (v : Walked) (out : List ℕ) (r : Walked) (out′ : List ℕ) (t′ : Table) (items′ : List ℕ) : Type 0 where
+  answered : isWhole bytes ≡ true → Answers bytes w t items v out r out′ t′ items′ → Steps bytes w t items v out r out′ t′ items′
+  refused : known (kindOf bytes) ≡ false
+      → Said (refusedLine 10 (v .offset)) out (v .used) (r .used) out′
+      → (r .at ≡ v .at) × (r .offset ≡ v .offset) × (r .ends ≡ true)
+      → (t′ ≡ t) × (items′ ≡ items)
+      → Steps bytes w t items v out r out′ t′ items′
+
+-- there is a step to take: what is left is not the beginning of a record, and a line more has room
+pub record Next (input : List ℕ) (v : Walked) : Type 0 where
+  pub left : v .at < length input
+  pub opened : v .ends ≡ false
+  pub few : v .used ≤ 40000
+  pub whole : known (kindOf (drop (v .at) input)) ≡ true → isWhole (drop (v .at) input) ≡ true
+
+-- there is none; where none was taken either, there is none to take
+pub record Last (input : List ℕ) (v : Walked) : Type 0 where
+  pub cut : v .at ≡ 0 → v .used ≡ 0 → v .ends ≡ false → Cut input
+
+pub record Awaits (input : List ℕ) (v : Walked) (r : Bool) : Type 0 where
+  pub goes : r ≡ true → Next input v
+  pub rests : r ≡ false → Last input v

@@ -1,0 +1,166 @@
+// For callers that hold the sheet and the table to what the calls before have left.
+use house::Walked;
+use house::held::front;
+use house::held::further;
+use records::held::is_known;
+use records::held::kind_of;
+use records::held::record_in;
+use records::held::size_of;
+use replies::held::refuse;
+use replies::held::reply;
+ghost use mathlib.Core.Path.{_≡_};
+ghost use mathlib.Core.Bool.{true};
+ghost use Prim.Native.Nat.{_+_, _<_};
+ghost use lib.ListN.{length};
+ghost use Rattle.table.specs.Tables.{table};
+ghost use Rattle.records.specs.Records.{known, kindOf, isWhole};
+ghost use Rattle.replies.specs.Memory.{Ready, Room};
+ghost use Rattle.house.specs.Memory.{FedWalk};
+ghost use Rattle.walking.specs.Answering.{pastReply, Answers, Steps, Awaits};
+
+// After a reply: past the record, unless it ends the program.
+fn past_reply(w: Walked, at: usize, offset: u64, used: usize, ends: bool) -> Walked
+    ensures { λ r. ⌜ r ≡ pastReply w at offset used ends ⌝ }
+{
+    if ends {
+        return Walked { used, ends, ..w };
+    }
+    Walked {
+        at,
+        offset,
+        used,
+        ends,
+    }
+}
+
+fn answer_front(
+    w: Walked,
+    rest: &[u8],
+    sheet: &[u32],
+    head: &mut [u32],
+    states: &mut [u32],
+    cursors: &mut [u32],
+    matched: &mut [u32],
+    transitions: &mut [u32],
+    items: &mut [u32],
+    out: &mut [u8],
+) -> Walked
+    requires { ⌜ Ready (now sheet) (table (now head) (now states) (now cursors) (now matched) (now transitions)) (now items) ⌝ }
+    requires { ⌜ (isWhole (now rest) ≡ true) × Room (w .used) (now out) × (w .at + length (now rest) < 18446744073709551616) ⌝ }
+    ensures { λ r. ⌜ Answers (now (rest .entry)) (now (sheet .entry)) (table (now (head .entry)) (now (states .entry)) (now (cursors .entry)) (now (matched .entry)) (now (transitions .entry))) (now (items .entry)) w (now (out .entry)) r (now (out .exit)) (table (now (head .exit)) (now (states .exit)) (now (cursors .exit)) (now (matched .exit)) (now (transitions .exit))) (now (items .exit)) ⌝ }
+{
+    let item = record_in(rest);
+    let size = size_of(item.kind);
+    let at = w.at + size;
+    let offset = further(w.offset, size);
+    let answer = reply(
+        sheet,
+        head,
+        states,
+        cursors,
+        matched,
+        transitions,
+        items,
+        item,
+        out,
+        w.used,
+        w.offset,
+    );
+    past_reply(w, at, offset, answer.used, answer.ends)
+}
+
+// Whether there is something to take: not only the beginning of a record, and room for a line more.
+fn awaits(input: &[u8], w: Walked) -> bool
+    ensures { λ r. ⌜ Awaits (now (input .entry)) w r ⌝ }
+{
+    if w.ends {
+        return false;
+    }
+    if 40000 < w.used {
+        return false;
+    }
+    let at = w.at;
+    if input.len() <= at {
+        return false;
+    }
+    front(&input[at..]) != 1
+}
+
+// A record at the front answered, or a byte that is no kind refused.
+fn step(
+    w: Walked,
+    rest: &[u8],
+    sheet: &[u32],
+    head: &mut [u32],
+    states: &mut [u32],
+    cursors: &mut [u32],
+    matched: &mut [u32],
+    transitions: &mut [u32],
+    items: &mut [u32],
+    out: &mut [u8],
+) -> Walked
+    requires { ⌜ Ready (now sheet) (table (now head) (now states) (now cursors) (now matched) (now transitions)) (now items) ⌝ }
+    requires { ⌜ (known (kindOf (now rest)) ≡ true → isWhole (now rest) ≡ true) × Room (w .used) (now out) × (w .at + length (now rest) < 18446744073709551616) ⌝ }
+    ensures { λ r. ⌜ Steps (now (rest .entry)) (now (sheet .entry)) (table (now (head .entry)) (now (states .entry)) (now (cursors .entry)) (now (matched .entry)) (now (transitions .entry))) (now (items .entry)) w (now (out .entry)) r (now (out .exit)) (table (now (head .exit)) (now (states .exit)) (now (cursors .exit)) (now (matched .exit)) (now (transitions .exit))) (now (items .exit)) ⌝ }
+{
+    if is_known(kind_of(rest)) {
+        return answer_front(
+            w,
+            rest,
+            sheet,
+            head,
+            states,
+            cursors,
+            matched,
+            transitions,
+            items,
+            out,
+        );
+    }
+    let used = refuse(out, w.used, 10, w.offset);
+    Walked {
+        used,
+        ends: true,
+        ..w
+    }
+}
+
+// The records of a piece, up to the program's end, what is not whole, or as many lines as leave room for one more.
+pub fn feed_walk(
+    input: &[u8],
+    offset: u64,
+    sheet: &[u32],
+    head: &mut [u32],
+    states: &mut [u32],
+    cursors: &mut [u32],
+    matched: &mut [u32],
+    transitions: &mut [u32],
+    items: &mut [u32],
+    out: &mut [u8],
+) -> Walked
+    requires { ⌜ Ready (now sheet) (table (now head) (now states) (now cursors) (now matched) (now transitions)) (now items) × (length (now out) ≡ 131072) ⌝ }
+    ensures { λ r. ⌜ FedWalk (now (input .entry)) offset (now (sheet .entry)) (table (now (head .entry)) (now (states .entry)) (now (cursors .entry)) (now (matched .entry)) (now (transitions .entry))) (now (items .entry)) (now (out .entry)) r (now (out .exit)) (table (now (head .exit)) (now (states .exit)) (now (cursors .exit)) (now (matched .exit)) (now (transitions .exit))) (now (items .exit)) ⌝ }
+{
+    let mut w = Walked {
+        at: 0,
+        offset,
+        used: 0,
+        ends: false,
+    };
+    while awaits(input, w) {
+        let at = w.at;
+        w = step(
+            w,
+            &input[at..],
+            sheet,
+            head,
+            states,
+            cursors,
+            matched,
+            transitions,
+            items,
+            out,
+        );
+    }
+    w
+}
