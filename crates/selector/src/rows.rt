@@ -1,22 +1,15 @@
-// Subjects and steps as lent rows of words. A subject row has 38: type flag, type, part flag, part, class count, pseudo count, 16 classes,
-// 16 pseudos; a step row 22, with 8 and 8. A flag that isn't 0 means set.
-use lent::words::wide;
+// Tags and ids of two rows compared.
 use lent::words::word;
 ghost use mathlib.Core.Path.{_≡_};
 ghost use mathlib.Core.Bool.{true};
 ghost use Prim.Native.Nat.{_<_, _+_};
 ghost use lib.ListN.{getD};
 ghost use Rattle.theory.specs.Lists.{ascends, contained};
-ghost use Rattle.selector.specs.Tags.{asSets, tagOk, stepMatches};
-ghost use Rattle.selector.specs.Rows.{tagOf, wordsFrom, rowAt};
-ghost use Rattle.selector.specs.Checks.{tagsAscend};
-
-pub(crate) const STEP_WORDS: usize = 22;
-
-pub(crate) const SUBJECT_WORDS: usize = 38;
+ghost use Rattle.selector.specs.Tags.{tagOk};
+ghost use Rattle.selector.specs.Rows.{tagOf};
 
 // Whether the tag at word s of a step, where set, is the one at word x of a subject.
-fn tag_matches(steps: &[u32], s: usize, path: &[u32], x: usize) -> bool
+pub(crate) fn tag_matches(steps: &[u32], s: usize, path: &[u32], x: usize) -> bool
     requires { ⌜ (s < 4294967296) × (x < 4294967296) ⌝ }
     ensures { λ r. ⌜ r ≡ tagOk (tagOf (getD (now (steps .entry)) s 0) (getD (now (steps .entry)) (s + 1) 0)) (tagOf (getD (now (path .entry)) x 0) (getD (now (path .entry)) (x + 1) 0)) ⌝ }
 {
@@ -29,17 +22,8 @@ fn tag_matches(steps: &[u32], s: usize, path: &[u32], x: usize) -> bool
     word(steps, s + 1) == word(path, x + 1)
 }
 
-// The words from `at` on, as many as the word at `count` says.
-pub(crate) fn ids<'a>(words: &'a [u32], at: usize, count: usize) -> &'a [u32]
-    requires { ⌜ at < 4294967296 ⌝ }
-    ensures { λ r. ⌜ now r ≡ wordsFrom (now (words .entry)) at (getD (now (words .entry)) count 0) ⌝ }
-{
-    let n = wide(word(words, count));
-    lent::held::part(words, at, at + n)
-}
-
 // Whether each id, in any order and repeated, is in the ascending set.
-fn all_in(given: &[u32], set: &[u32]) -> bool
+pub(crate) fn all_in(given: &[u32], set: &[u32]) -> bool
     requires { ⌜ ascends (now set) ≡ true ⌝ }
     ensures { λ r. ⌜ r ≡ contained (now (given .entry)) (now (set .entry)) ⌝ }
 {
@@ -51,22 +35,4 @@ fn all_in(given: &[u32], set: &[u32]) -> bool
         i += 1;
     }
     true
-}
-
-// Whether the step whose row begins at word s matches the subject whose row begins at word x.
-pub(crate) fn matches_row(steps: &[u32], s: usize, path: &[u32], x: usize) -> bool
-    requires { ⌜ (s < 4294967000) × (x < 4294967000) ⌝ }
-    requires { ⌜ tagsAscend (rowAt 16 (now path) x) ≡ true ⌝ }
-    ensures { λ r. ⌜ r ≡ stepMatches (asSets (rowAt 8 (now (steps .entry)) s)) (rowAt 16 (now (path .entry)) x) ⌝ }
-{
-    if !tag_matches(steps, s, path, x) {
-        return false;
-    }
-    if !tag_matches(steps, s + 2, path, x + 2) {
-        return false;
-    }
-    if !all_in(ids(steps, s + 6, s + 4), ids(path, x + 6, x + 4)) {
-        return false;
-    }
-    all_in(ids(steps, s + 14, s + 5), ids(path, x + 22, x + 5))
 }
