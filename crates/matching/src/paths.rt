@@ -1,4 +1,5 @@
 // Whether a selector fits a path, and if not why: `matches_path` and `diagnose_path`.
+use checks::held::path_verdict;
 use lent::Refusal;
 use lent::words::word;
 use selector::Diagnosis;
@@ -6,7 +7,6 @@ use selector::Matching;
 use selector::held::STEP_WORDS;
 use selector::held::SUBJECT_WORDS;
 use selector::held::matches_row;
-use selector::held::path_verdict;
 ghost use mathlib.Core.Path.{_≡_};
 ghost use mathlib.Core.Bool.{false};
 ghost use Prim.Native.Nat.{_<_, _≤_, _+_, _-_};

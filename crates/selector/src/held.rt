@@ -1,24 +1,16 @@
 // Subjects and steps as lent rows of words. A subject row has 38: type flag, type, part flag, part, class count, pseudo count, 16 classes,
-// 16 pseudos; a step row 22, with 8 and 8. A flag that isn't 0 means set. A verdict is the refusal's number in 01's order, 0 for none.
-use crate::checks::codes_over;
-use crate::checks::combinators_off;
-use crate::checks::path_over;
-use crate::checks::steps_fit;
-use crate::checks::subjects_off;
-use crate::rows::all_in;
-use crate::rows::tag_matches;
+// 16 pseudos; a step row 22, with 8 and 8. A flag that isn't 0 means set.
 use lent::sets::is_ascending;
 use lent::words::wide;
 use lent::words::word;
 ghost use mathlib.Core.Path.{_≡_};
 ghost use mathlib.Core.Bool.{true};
-ghost use mathlib.Core.List.{[], _∷_};
-ghost use Prim.Native.Nat.{_<_, _≤_};
-ghost use lib.ListN.{length, getD};
-ghost use Rattle.lent.specs.Refusals.{check, firstOf};
-ghost use Rattle.selector.specs.Tags.{asSets, stepMatches};
-ghost use Rattle.selector.specs.Rows.{wordsFrom, rowAt};
-ghost use Rattle.selector.specs.Checks.{rowFits, selectorOver, combinatorsOff, codesOver, tagsAscend, selectorVerdict, pathVerdict};
+ghost use Prim.Native.Nat.{_<_, _+_};
+ghost use lib.ListN.{getD};
+ghost use Rattle.theory.specs.Lists.{ascends, contained};
+ghost use Rattle.selector.specs.Tags.{asSets, tagOk, stepMatches};
+ghost use Rattle.selector.specs.Rows.{tagOf, wordsFrom, rowAt};
+ghost use Rattle.selector.specs.Checks.{rowFits, tagsAscend};
 
 pub const STEP_WORDS: usize = 22;
 
@@ -55,6 +47,35 @@ pub fn row_ascends(path: &[u32], at: usize) -> bool
     is_ascending(ids(path, at + 22, at + 5))
 }
 
+// Whether the tag at word s of a step, where set, is the one at word x of a subject.
+fn tag_matches(steps: &[u32], s: usize, path: &[u32], x: usize) -> bool
+    requires { ⌜ (s < 4294967296) × (x < 4294967296) ⌝ }
+    ensures { λ r. ⌜ r ≡ tagOk (tagOf (getD (now (steps .entry)) s 0) (getD (now (steps .entry)) (s + 1) 0)) (tagOf (getD (now (path .entry)) x 0) (getD (now (path .entry)) (x + 1) 0)) ⌝ }
+{
+    if word(steps, s) == 0 {
+        return true;
+    }
+    if word(path, x) == 0 {
+        return false;
+    }
+    word(steps, s + 1) == word(path, x + 1)
+}
+
+// Whether each id, in any order and repeated, is in the ascending set.
+fn all_in(given: &[u32], set: &[u32]) -> bool
+    requires { ⌜ ascends (now set) ≡ true ⌝ }
+    ensures { λ r. ⌜ r ≡ contained (now (given .entry)) (now (set .entry)) ⌝ }
+{
+    let mut i = 0;
+    while i < given.len() {
+        if !lent::held::contains(set, given[i]) {
+            return false;
+        }
+        i += 1;
+    }
+    true
+}
+
 // Whether the step whose row begins at word s matches the subject whose row begins at word x.
 pub fn matches_row(steps: &[u32], s: usize, path: &[u32], x: usize) -> bool
     requires { ⌜ (s < 4294967000) × (x < 4294967000) ⌝ }
@@ -71,71 +92,4 @@ pub fn matches_row(steps: &[u32], s: usize, path: &[u32], x: usize) -> bool
         return false;
     }
     all_in(ids(steps, s + 14, s + 5), ids(path, x + 22, x + 5))
-}
-
-// Whether a count of n steps or c combinators is over its size or past its list.
-pub fn selector_over(steps: &[u32], n: usize, combinators: &[u32], c: usize) -> bool
-    ensures { λ r. ⌜ r ≡ selectorOver (now (steps .entry)) n (now (combinators .entry)) c ⌝ }
-{
-    if 8 < n {
-        return true;
-    }
-    if steps.len() / STEP_WORDS < n {
-        return true;
-    }
-    if combinators.len() < c {
-        return true;
-    }
-    !steps_fit(steps, n)
-}
-
-// 3, then 6, of c combinators for n steps.
-pub fn combinators_verdict(n: usize, combinators: &[u32], c: usize) -> u32
-    requires { ⌜ c ≤ length (now combinators) ⌝ }
-    ensures { λ r. ⌜ r ≡ firstOf (check 3 (combinatorsOff n c) ∷ check 6 (codesOver (now (combinators .entry)) c) ∷ []) ⌝ }
-{
-    if combinators_off(n, c) {
-        return 3;
-    }
-    if codes_over(combinators, c) {
-        return 6;
-    }
-    0
-}
-
-// Of a selector alone: 2, 3, 6.
-pub fn selector_verdict(steps: &[u32], n: usize, combinators: &[u32], c: usize) -> u32
-    ensures { λ r. ⌜ r ≡ selectorVerdict (now (steps .entry)) n (now (combinators .entry)) c ⌝ }
-{
-    if selector_over(steps, n, combinators, c) {
-        return 2;
-    }
-    combinators_verdict(n, combinators, c)
-}
-
-// "Matching and diagnosis 2 (selector, then path), 3, 6, 1."
-pub fn path_verdict(
-    steps: &[u32],
-    n: usize,
-    combinators: &[u32],
-    c: usize,
-    path: &[u32],
-    m: usize,
-) -> u32
-    ensures { λ r. ⌜ r ≡ pathVerdict (now (steps .entry)) n (now (combinators .entry)) c (now (path .entry)) m ⌝ }
-{
-    if selector_over(steps, n, combinators, c) {
-        return 2;
-    }
-    if path_over(path, m) {
-        return 2;
-    }
-    let v = combinators_verdict(n, combinators, c);
-    if v != 0 {
-        return v;
-    }
-    if subjects_off(path, m) {
-        return 1;
-    }
-    0
 }

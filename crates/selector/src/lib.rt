@@ -1,9 +1,7 @@
 // Subjects and selectors in lent rows, and what is answered of them: selector.rs.
 use lent::Refusal;
 
-mod checks;
 pub mod held;
-mod rows;
 
 // Whether a selector fits a path, or a step a subject.
 pub enum Matching {

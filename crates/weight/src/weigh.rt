@@ -1,9 +1,9 @@
 // The weight of a selector, counted from its steps' sets: `specificity`, and Level 3's.
 use crate::held::sum;
+use checks::held::selector_verdict;
 use lent::Refusal;
 use selector::Specificity;
 use selector::Weighing;
-use selector::held::selector_verdict;
 ghost use mathlib.Core.Path.{_≡_};
 ghost use Rattle.selector.specs.Weighing.{weighingTold, weighingOf};
 

@@ -1,9 +1,9 @@
 use borrow.Author.Needs.{needs}
 use Rattle.selector.specs.Checks.{selectorVerdict}
 use Rattle.lent.proofs.Refusals.{firsts}
 use Rattle.selector.proofs.CheckLaws.{combinators-there}
-use Rattle.selector.proofs.held.selector_verdict.Statement.{statement}
-use Rattle.selector.proofs.held.selector_verdict.Tie as tie
+use Rattle.checks.proofs.held.selector_verdict.Statement.{statement}
+use Rattle.checks.proofs.held.selector_verdict.Tie as tie
 
 selector-over-requires : tie.Need-selector-over-requires
 selector-over-requires c κs = search needs

@@ -1,7 +1,7 @@
 use borrow.Author.Needs.{needs}
 use Rattle.lent.proofs.Refusals.{firsts}
-use Rattle.selector.proofs.held.combinators_verdict.Statement.{statement}
-use Rattle.selector.proofs.held.combinators_verdict.Tie as tie
+use Rattle.checks.proofs.held.combinators_verdict.Statement.{statement}
+use Rattle.checks.proofs.held.combinators_verdict.Tie as tie
 
 combinators-off-requires : tie.Need-combinators-off-requires
 combinators-off-requires c κs = search needs

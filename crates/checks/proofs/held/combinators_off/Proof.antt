@@ -1,7 +1,7 @@
 use borrow.Author.Needs.{needs}
 use Rattle.selector.proofs.CheckLaws.{none-off}
-use Rattle.selector.proofs.checks.combinators_off.Statement.{statement}
-use Rattle.selector.proofs.checks.combinators_off.Tie as tie
+use Rattle.checks.proofs.held.combinators_off.Statement.{statement}
+use Rattle.checks.proofs.held.combinators_off.Tie as tie
 
 returns : tie.Need-returns
 returns c = search (none-off, needs)

@@ -2,8 +2,8 @@ use Prim.Native.Nat.{_-_}
 use lib.ListN.{length}
 use borrow.Author.Needs.{needs}
 use Rattle.selector.proofs.RowLaws.{Looking, looking}
-use Rattle.selector.proofs.rows.all_in.Statement.{statement}
-use Rattle.selector.proofs.rows.all_in.Tie as tie
+use Rattle.selector.proofs.held.all_in.Statement.{statement}
+use Rattle.selector.proofs.held.all_in.Tie as tie
 
 abbrev Inv-loop : tie.InvT-loop
 Inv-loop given set i₀ i = Looking given set i

@@ -2,15 +2,15 @@ use Prim.Native.Nat.{_-_, _*_}
 use borrow.Author.Needs.{needs}
 use borrow.Author.Tests.{not-true, not-false}
 use Rattle.lent.proofs.All.{Sofar, sofar}
 use Rattle.selector.specs.Checks.{rowFits}
-use Rattle.selector.proofs.checks.steps_fit.Statement.{statement}
-use Rattle.selector.proofs.checks.steps_fit.Tie as tie
+use Rattle.checks.proofs.held.subjects_fit.Statement.{statement}
+use Rattle.checks.proofs.held.subjects_fit.Tie as tie
 
 abbrev Inv-loop : tie.InvT-loop
-Inv-loop steps n k₀ k = Sofar (λ j. rowFits 8 steps (22 * j)) n k
+Inv-loop path m i₀ i = Sofar (λ j. rowFits 16 path (38 * j)) m i
 
 abbrev μ-loop : tie.MeasureT-loop
-μ-loop steps n k₀ k = n - k
+μ-loop path m i₀ i = m - i
 
 loop-holds : tie.Need-loop-holds Inv-loop μ-loop
 loop-holds c = search (sofar, needs)
@@ -24,8 +24,8 @@ row-fits-requires c κs = search needs
 returns : tie.Need-returns Inv-loop μ-loop
 returns c = search (sofar, not-true, needs)
 
-add-k : tie.Need-add-k Inv-loop μ-loop
-add-k c = search needs
+add-i : tie.Need-add-i Inv-loop μ-loop
+add-i c = search needs
 
 loop-less : tie.Need-loop-less Inv-loop μ-loop
 loop-less c = search needs
@@ -36,8 +36,8 @@ loop-again c = search (sofar, not-false, needs)
 returns-2 : tie.Need-returns-2 Inv-loop μ-loop
 returns-2 c = search (sofar, needs)
 
-pub steps-fit-spec : {M : Type 1} → statement M
-steps-fit-spec =
+pub subjects-fit-spec : {M : Type 1} → statement M
+subjects-fit-spec =
     tie.close
     (tie.spec
     Inv-loop
@@ -46,7 +46,7 @@ steps-fit-spec =
     mul-row-fits
     row-fits-requires
     returns
-    add-k
+    add-i
     loop-less
     loop-again
     returns-2)

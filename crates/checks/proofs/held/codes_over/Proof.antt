@@ -1,8 +1,8 @@
 use Prim.Native.Nat.{_-_}
 use borrow.Author.Needs.{needs}
 use Rattle.selector.proofs.CheckLaws.{Coded, coded}
-use Rattle.selector.proofs.checks.codes_over.Statement.{statement}
-use Rattle.selector.proofs.checks.codes_over.Tie as tie
+use Rattle.checks.proofs.held.codes_over.Statement.{statement}
+use Rattle.checks.proofs.held.codes_over.Tie as tie
 
 abbrev Inv-loop : tie.InvT-loop
 Inv-loop combinators c j₀ j = Coded combinators c j

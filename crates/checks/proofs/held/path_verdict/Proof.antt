@@ -1,9 +1,9 @@
 use borrow.Author.Needs.{needs}
 use Rattle.selector.specs.Checks.{pathVerdict}
 use Rattle.lent.proofs.Refusals.{firsts}
 use Rattle.selector.proofs.CheckLaws.{combinators-there, places-few, first-kept, first-after}
-use Rattle.selector.proofs.held.path_verdict.Statement.{statement}
-use Rattle.selector.proofs.held.path_verdict.Tie as tie
+use Rattle.checks.proofs.held.path_verdict.Statement.{statement}
+use Rattle.checks.proofs.held.path_verdict.Tie as tie
 
 selector-over-requires : tie.Need-selector-over-requires
 selector-over-requires c κs = search needs

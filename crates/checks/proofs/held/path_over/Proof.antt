@@ -1,7 +1,7 @@
 use borrow.Author.Needs.{needs}
 use Rattle.selector.proofs.CheckLaws.{over-places, over-place-rows, over-place-last}
-use Rattle.selector.proofs.checks.path_over.Statement.{statement}
-use Rattle.selector.proofs.checks.path_over.Tie as tie
+use Rattle.checks.proofs.held.path_over.Statement.{statement}
+use Rattle.checks.proofs.held.path_over.Tie as tie
 
 returns : tie.Need-returns
 returns c = search (over-places, needs)

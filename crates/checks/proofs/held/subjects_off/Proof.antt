@@ -2,11 +2,11 @@ use Prim.Native.Nat.{_-_}
 use borrow.Author.Needs.{needs}
 use borrow.Author.Tests.{not-true, not-false}
 use Rattle.lent.proofs.All.{Sofar, sofar}
 use Rattle.selector.specs.Rows.{subjectAt}
 use Rattle.selector.specs.Checks.{tagsAscend, subjectsOff}
 use Rattle.selector.proofs.CheckLaws.{off-none, off-one}
-use Rattle.selector.proofs.checks.subjects_off.Statement.{statement}
-use Rattle.selector.proofs.checks.subjects_off.Tie as tie
+use Rattle.checks.proofs.held.subjects_off.Statement.{statement}
+use Rattle.checks.proofs.held.subjects_off.Tie as tie
 
 abbrev Inv-loop : tie.InvT-loop
 Inv-loop path m i₀ i = Sofar (λ k. tagsAscend (subjectAt path k)) m i

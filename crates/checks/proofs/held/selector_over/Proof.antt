@@ -1,7 +1,7 @@
 use borrow.Author.Needs.{needs}
 use Rattle.selector.proofs.CheckLaws.{over-steps, over-rows, over-combinators, over-last}
-use Rattle.selector.proofs.held.selector_over.Statement.{statement}
-use Rattle.selector.proofs.held.selector_over.Tie as tie
+use Rattle.checks.proofs.held.selector_over.Statement.{statement}
+use Rattle.checks.proofs.held.selector_over.Tie as tie
 
 returns : tie.Need-returns
 returns c = search (over-steps, needs)

@@ -1,7 +1,7 @@
 use borrow.Author.Needs.{needs}
 use Rattle.selector.proofs.RowLaws.{tag-free, tag-missing, tag-both}
-use Rattle.selector.proofs.rows.tag_matches.Statement.{statement}
-use Rattle.selector.proofs.rows.tag_matches.Tie as tie
+use Rattle.selector.proofs.held.tag_matches.Statement.{statement}
+use Rattle.selector.proofs.held.tag_matches.Tie as tie
 
 word-requires : tie.Need-word-requires
 word-requires c κs = search needs
