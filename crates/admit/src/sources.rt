@@ -1,12 +1,12 @@
 // The refusals of a pushed style and of a pushed group, in 01's order; each answer is the refusal's number, 0 for none. Nothing is written.
+use checks::held::combinators_verdict;
+use checks::held::selector_over;
 use given::held::all_entries;
 use given::held::held_ids;
 use lent::held::rest;
 use lent::held::rest_halves;
 use lent::words::wide;
 use lent::words::word;
-use selector::held::combinators_verdict;
-use selector::held::selector_over;
 use sheet::layout;
 use sheet::shape::is_sheet;
 use style::held::entries_over;

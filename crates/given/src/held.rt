@@ -175,7 +175,7 @@ pub fn held_ids(steps: &[u32], n: usize) -> usize
     requires { ⌜ (n ≤ 8) × (allBelow n (λ (k : ℕ). rowFits 8 (now steps) (22 * k)) ≡ true) ⌝ }
     ensures { λ r. ⌜ Ids (now (steps .entry)) n r ⌝ }
 {
-    let s = selector::held::sum(steps, n);
+    let s = weight::held::sum(steps, n);
     wide(s.1) + wide(s.0)
 }
 

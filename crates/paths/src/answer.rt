@@ -1,10 +1,10 @@
 // The lines of one case.
 use crate::say;
 use lent::words::wide;
-use selector::paths::diagnose_path;
-use selector::paths::matches_path;
-use selector::weigh::level3_specificity;
-use selector::weigh::specificity;
+use matching::paths::diagnose_path;
+use matching::paths::matches_path;
+use weight::weigh::level3_specificity;
+use weight::weigh::specificity;
 ghost use Prim.Native.Nat.{_≤_};
 ghost use lib.ListN.{length};
 

@@ -34,8 +34,8 @@ use Rattle.selector.specs.Matching.{fits, matchingTold, matchingOf}
 use Rattle.selector.specs.Diagnosing.{diagnosisTold, diagnosisOf}
 use Rattle.selector.specs.Weighing.{countsOf, countsIn, Summed, weighingTold, weightTold, weighingOf}
 use Rattle.selector.proofs.Distinct.{matching-distinct, diagnosis-distinct}
-use Rattle.selector.proofs.Fitting.{matching-places}
-use Rattle.selector.proofs.Promises.{answers-agree}
+use Rattle.matching.proofs.Fitting.{matching-places}
+use Rattle.matching.proofs.Promises.{answers-agree}
 use Rattle.selector.proofs.Saturation.{never-saturates}
 use Rattle.typed.specs.declared.SelectorStep.{SelectorStep}
 use Rattle.typed.specs.Typed.{stepTags, stepWeighing}

@@ -27,10 +27,10 @@ use Rattle.selector.specs.Rows.{subjectAt, selectorOf, pathOf}
 use Rattle.selector.specs.Checks.{rowFits, selectorOver, pathOver, combinatorsOff, codesOver, tagsAscend, subjectsOff, pathVerdict}
 use Rattle.selector.specs.Matching.{fitsFrom, fits, matchingTold, yesNo, matchingOf}
 use Rattle.selector.specs.Diagnosing.{diagnosisTold, diagnosisOf}
-use Rattle.selector.proofs.Agree.{diagnosis-fits}
-use Rattle.selector.proofs.Answers.{told-is}
+use Rattle.matching.proofs.Agree.{diagnosis-fits}
+use Rattle.matching.proofs.Answers.{told-is}
 use Rattle.selector.proofs.Distinct.{matching-distinct, diagnosis-distinct}
-use Rattle.selector.proofs.Fitting.{subject-drop, fits-level3}
+use Rattle.matching.proofs.Fitting.{subject-drop, fits-level3}
 use Rattle.promises.specs.Level3.{RepresentsLast}
 
 -- ---- row i of the tail is row j + i

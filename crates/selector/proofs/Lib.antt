@@ -3,9 +3,4 @@ pub mod RowLaws
 pub mod CheckLaws
 pub mod WeighLaws
 pub mod Saturation
-pub mod Judging
-pub mod Answers
 pub mod Distinct
-pub mod Agree
-pub mod Fitting
-pub mod Promises

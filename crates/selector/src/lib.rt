@@ -1,11 +1,7 @@
-// Subjects, selectors, path matching and diagnosis: selector.rs.
+// Subjects and selectors in lent rows, and what is answered of them: selector.rs.
 use lent::Refusal;
 
-mod checks;
 pub mod held;
-pub mod paths;
-mod rows;
-pub mod weigh;
 
 // Whether a selector fits a path, or a step a subject.
 pub enum Matching {

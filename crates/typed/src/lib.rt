@@ -9,7 +9,7 @@ use selector::held::ids;
 use selector::held::matches_row;
 use selector::held::row_ascends;
 use selector::held::row_fits;
-use selector::held::step_specificity;
+use weight::held::step_specificity;
 ghost use mathlib.Core.Path.{_≡_};
 ghost use Prim.Native.Nat.{ℕ, _≤_};
 ghost use lib.ListN.{drop, getD};

@@ -1,0 +1,2 @@
+// When a selector or a path is refused.
+pub mod held;

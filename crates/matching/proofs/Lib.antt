@@ -1,0 +1,6 @@
+-- What the proofs of several functions use, and the theorems.
+pub mod Judging
+pub mod Answers
+pub mod Agree
+pub mod Fitting
+pub mod Promises

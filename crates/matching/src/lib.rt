@@ -1,0 +1,2 @@
+// Path matching and diagnosis: selector.rs.
+pub mod paths;

@@ -1,0 +1,3 @@
+// The weight of a selector: selector.rs.
+pub mod held;
+pub mod weigh;
