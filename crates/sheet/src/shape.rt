@@ -116,7 +116,7 @@ pub fn end_to_end(sheet: &[u32], ends: Column, k: u32) -> bool
 }
 
 // How many elements list k has.
-pub(crate) fn list_length(sheet: &[u32], ends: Column, k: u32) -> u32
+pub fn list_length(sheet: &[u32], ends: Column, k: u32) -> u32
     ensures { λ r. ⌜ r ≡ endsIn (now (sheet .entry)) (ends .base) (ends .stride) k - startOf (endsIn (now (sheet .entry)) (ends .base) (ends .stride)) k ⌝ }
 {
     let from = start_of(sheet, ends, k);
