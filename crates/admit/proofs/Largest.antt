@@ -12,8 +12,7 @@ use Rattle.theory.proofs.Lists.{le-or-lt}
 use Rattle.theory.proofs.Spreads.{map-spread, spread-snoc}
 use Rattle.lent.specs.Pool.{endsIn}
 use Rattle.sheet.specs.Layout
-use Rattle.sheet.specs.Sheets.{styleAt, ruleAt, sheetOf}
-use Rattle.sheet.specs.Reading.{isNil}
+use Rattle.sheet.specs.Sheets.{isNil, styleAt, ruleAt, sheetOf}
 use Rattle.given.specs.Pushing.{indexesOf, indexesOver, largest}
 
 -- ---- the larger of two

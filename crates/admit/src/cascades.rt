@@ -12,8 +12,7 @@ ghost use lib.ListN.{getD};
 ghost use lib.Dec.{ltb};
 ghost use Rattle.theory.specs.Lists.{spread};
 ghost use Rattle.lent.specs.Pool.{endsIn};
-ghost use Rattle.sheet.specs.Sheets.{sheetOf};
-ghost use Rattle.sheet.specs.Reading.{isNil};
+ghost use Rattle.sheet.specs.Sheets.{isNil, sheetOf};
 ghost use Rattle.given.specs.Pushing.{sumsOver, indexesOf, indexesOver, cascadeVerdict, largest};
 
 // Whether the two sheets' counts at word `at` come to more than `limit`.

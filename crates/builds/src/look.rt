@@ -11,7 +11,7 @@ use lent::words::put;
 use lent::words::wide;
 use lent::words::widen_into;
 use lent::words::word;
-use sheet::EntryAnswer;
+use reading::EntryAnswer;
 use style::Containing;
 use style::Length;
 use style::Place;

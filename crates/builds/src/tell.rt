@@ -4,19 +4,19 @@ use items::say;
 use lent::held::part;
 use lent::words::word;
 use lines::text;
+use reading::CombinatorAnswer;
+use reading::Counting;
+use reading::DirectStyle;
+use reading::Emptiness;
+use reading::EntryAnswer;
+use reading::MatchRule;
+use reading::RuleAnswer;
+use reading::StepAnswer;
+use reading::StepVerdict;
+use reading::StyleAnswer;
+use reading::read;
 use selector::Specificity;
 use selector::Weighing;
-use sheet::CombinatorAnswer;
-use sheet::Counting;
-use sheet::DirectStyle;
-use sheet::Emptiness;
-use sheet::EntryAnswer;
-use sheet::MatchRule;
-use sheet::RuleAnswer;
-use sheet::StepAnswer;
-use sheet::StepVerdict;
-use sheet::StyleAnswer;
-use sheet::read;
 
 // Entry i of a source, which is a direct style where `source` is 0, else a rule.
 pub(crate) fn entry_of(sheet: &[u32], source: u32, number: u32, i: u32) -> EntryAnswer {

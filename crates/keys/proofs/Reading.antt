@@ -9,7 +9,7 @@ use Rattle.theory.specs.Weight.{noWeight}
 use Rattle.lent.specs.Pool.{endsIn}
 use Rattle.sheet.specs.Layout
 use Rattle.sheet.specs.Sheets.{keyOf, direct, listed, styleAt, ruleAt, weightFor}
-use Rattle.sheet.specs.Reading.{weightFrom}
+use Rattle.weighed.specs.Weighing.{weightFrom}
 use Rattle.keys.specs.declared.CascadeEntryKey.{CascadeEntryKey}
 use Rattle.keys.specs.Keys.{keyFrom}
 

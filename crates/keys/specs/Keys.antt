@@ -1,6 +1,6 @@
 -- A key by value: 01, "Weight, winners, changes". Assumes nothing.
 use Rattle.theory.specs.Cascade.{Key}
-use Rattle.sheet.specs.Reading.{weightFrom}
+use Rattle.weighed.specs.Weighing.{weightFrom}
 use Rattle.keys.specs.declared.CascadeEntryKey.{CascadeEntryKey}
 
 -- "A source's key is origin rank, weight, source index, order in its group."

@@ -2,8 +2,8 @@
 use crate::CascadeEntryKey;
 use lent::lists::cell;
 use selector::Specificity;
-use sheet::held::weight;
 use sheet::layout;
+use weighed::held::weight;
 ghost use mathlib.Core.Path.{_≡_};
 ghost use mathlib.Core.Bool.{true};
 ghost use Prim.Native.Nat.{ℕ, _≤_, _<_};

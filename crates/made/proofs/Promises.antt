@@ -24,11 +24,11 @@ use Rattle.sheet.specs.Layout
 use Rattle.sheet.specs.Sheets.{Style, Rule, Source, sourcesOf, keyOf, countsFor, ruleAt, styleAt, sheetOf}
 use Rattle.sheet.specs.Shape.{sheetShape}
 use Rattle.sheet.specs.Laying.{emptied}
-use Rattle.sheet.specs.Reading.{StepRead}
-use Rattle.sheet.specs.declared.StepAnswer.{StepAnswer}
+use Rattle.reading.specs.Reading.{StepRead}
+use Rattle.reading.specs.declared.StepAnswer.{StepAnswer}
 use Rattle.sheet.proofs.Shaped.{shaped}
-use Rattle.sheet.proofs.Readers.{step-of-rule}
-use Rattle.sheet.proofs.Saturation.{rule-never-saturates}
+use Rattle.reading.proofs.Readers.{step-of-rule}
+use Rattle.weighed.proofs.Saturation.{rule-never-saturates}
 use Rattle.laid.proofs.Reading.{before-or-added, no-rule}
 use Rattle.laid.proofs.Held.{rules-count}
 use Rattle.laid.proofs.Emptied.{read-emptied, shape-emptied}

@@ -21,7 +21,7 @@ use Rattle.selector.specs.Checks.{tagsAscend}
 use Rattle.sheet.specs.Layout
 use Rattle.sheet.specs.Sheets.{Style, Rule, between, ruleStepEnds, ruleEntryEnds, styleEntryEnds, partAt, entryAt, ruleAt, styleAt, sheetOf}
 use Rattle.sheet.specs.Laying.{stepWords, stepsWords, ruleWords, styleWords, ruleEntries, styleEntries, stepsOf, idsHeld}
-use Rattle.sheet.proofs.Readers.{sort-same}
+use Rattle.sheet.proofs.ReadLaws.{sort-same}
 use Rattle.sheet.proofs.Shaped.{Shaped, StepShaped}
 use Rattle.laid.proofs.Frame.{steps-flat}
 use Rattle.laid.proofs.Held.{first-suc, most-spread, ends-flat, first-ids}

@@ -11,12 +11,11 @@ use Rattle.lent.specs.Pool.{endsIn}
 use Rattle.lent.proofs.Placing.{sets-append}
 use Rattle.selector.specs.Checks.{rowFits}
 use Rattle.sheet.specs.Layout
-use Rattle.sheet.specs.Sheets.{ruleStepEnds, ruleEntryEnds, styleEntryEnds, partAt, entryAt, sheetOf}
+use Rattle.sheet.specs.Sheets.{isNil, ruleStepEnds, ruleEntryEnds, styleEntryEnds, partAt, entryAt, sheetOf}
 use Rattle.sheet.specs.Shape.{sheetShape}
 use Rattle.sheet.specs.Laying.{stepWords, ruleWords, styleWords, layEntries, layRules, layStyles, countWords, lay}
 use Rattle.sheet.proofs.Shaped.{shaped, row-from, step-end-within, entry-end-within, style-entry-end-within}
 use Rattle.given.specs.declared.Counts.{Counts}
-use Rattle.sheet.specs.Reading.{isNil}
 use Rattle.given.specs.Pushing.{indexesOf, shiftStyle, shiftRule, largest, nextAfter, pushedCascade}
 use Rattle.given.specs.Leaves.{CountsOf, partOf, heldRow, heldStyleRow, countsList, sumCounts}
 use Rattle.laid.proofs.Frame.{length-step}

@@ -35,11 +35,11 @@ use Rattle.sheet.specs.Layout
 use Rattle.sheet.specs.Shape.{sheetShape}
 use Rattle.sheet.specs.Sheets.{ruleAt}
 use Rattle.sheet.specs.Laying.{idsHeld}
-use Rattle.sheet.specs.Reading.{ruleTold, entryTold, combinatorTold, stepTold, ruleVerdict, ruleNumbers, entryNumbers, combinatorNumbers, StepRead}
-use Rattle.sheet.specs.declared.RuleAnswer.{RuleAnswer}
-use Rattle.sheet.specs.declared.EntryAnswer.{EntryAnswer}
-use Rattle.sheet.specs.declared.CombinatorAnswer.{CombinatorAnswer}
-use Rattle.sheet.specs.declared.StepAnswer.{StepAnswer}
+use Rattle.reading.specs.Reading.{ruleTold, entryTold, combinatorTold, stepTold, ruleVerdict, ruleNumbers, entryNumbers, combinatorNumbers, StepRead}
+use Rattle.reading.specs.declared.RuleAnswer.{RuleAnswer}
+use Rattle.reading.specs.declared.EntryAnswer.{EntryAnswer}
+use Rattle.reading.specs.declared.CombinatorAnswer.{CombinatorAnswer}
+use Rattle.reading.specs.declared.StepAnswer.{StepAnswer}
 use Rattle.given.specs.Given.{Group, stepCount, combinatorCount, entryCount, stepsFrom, combinatorsFrom, propertiesFrom, kindsFrom, numbersFrom, selectorGiven}
 use Rattle.given.specs.Pushing.{allEntriesIn, rulesOver, sumsOver, indexesOver, ruleChecks, stylePushVerdict, groupVerdict, cascadeVerdict, pushedCascade}
 use Rattle.builder.specs.Answers.{pushingTold, Push}

@@ -34,11 +34,11 @@ use Rattle.style.specs.declared.ResourceKey.{ResourceKey}
 use Rattle.sheet.specs.Layout
 use Rattle.sheet.specs.Shape.{sheetShape}
 use Rattle.sheet.specs.Sheets.{countsFor, ruleAt, styleAt}
-use Rattle.sheet.specs.Reading.{countingTold, emptinessTold, styleTold, entryTold, sheetVerdict, weightVerdict, emptinessOf, styleNumbers, entryNumbers, styleThere}
-use Rattle.sheet.specs.declared.Counting.{Counting}
-use Rattle.sheet.specs.declared.Emptiness.{Emptiness}
-use Rattle.sheet.specs.declared.StyleAnswer.{StyleAnswer}
-use Rattle.sheet.specs.declared.EntryAnswer.{EntryAnswer}
+use Rattle.reading.specs.Reading.{countingTold, emptinessTold, styleTold, entryTold, sheetVerdict, weightVerdict, emptinessOf, styleNumbers, entryNumbers, styleThere}
+use Rattle.reading.specs.declared.Counting.{Counting}
+use Rattle.reading.specs.declared.Emptiness.{Emptiness}
+use Rattle.reading.specs.declared.StyleAnswer.{StyleAnswer}
+use Rattle.reading.specs.declared.EntryAnswer.{EntryAnswer}
 use Rattle.given.specs.Pushing.{emptyVerdict}
 use Rattle.builder.specs.Answers.{pushingTold, Push}
 use Rattle.builder.specs.declared.Pushing.{Pushing}

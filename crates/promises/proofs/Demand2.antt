@@ -40,8 +40,9 @@ use Rattle.selector.proofs.Saturation.{never-saturates}
 use Rattle.typed.specs.declared.SelectorStep.{SelectorStep}
 use Rattle.typed.specs.Typed.{stepTags, stepWeighing}
 use Rattle.sheet.specs.Sheets.{ruleAt, countsFor}
-use Rattle.sheet.specs.Reading.{weightVerdict, weightFrom}
-use Rattle.sheet.proofs.Saturation.{rule-never-saturates}
+use Rattle.weighed.specs.Weighing.{weightFrom}
+use Rattle.weighed.proofs.Saturation.{rule-never-saturates}
+use Rattle.reading.specs.Reading.{weightVerdict}
 use Rattle.table.specs.Tables.{Table, selectorsOf}
 use Rattle.matcher.specs.Answers.{Rules}
 use Rattle.keys.specs.declared.CascadeEntryKey.{CascadeEntryKey}

@@ -25,8 +25,8 @@ use Rattle.style.specs.Looking.{lengthTold, containingTold, positionTold, kindT
 use Rattle.style.proofs.Distinct.{length-distinct, containing-distinct, position-distinct, kind-distinct, plain-distinct, resource-distinct, ids-determined}
 use Rattle.sheet.specs.Layout.{rulesIn, stylesIn}
 use Rattle.sheet.specs.Sheets.{countsFor, ruleAt, styleAt}
-use Rattle.sheet.specs.Reading.{countingTold, emptinessTold, ruleTold, styleTold, entryTold, combinatorTold, sheetVerdict, ruleVerdict, weightVerdict, emptinessOf, ruleNumbers, styleNumbers, entryNumbers, combinatorNumbers, styleThere, StepRead}
-use Rattle.sheet.proofs.Distinct.{counting-distinct, emptiness-distinct, rule-distinct, style-distinct, entry-distinct, combinator-distinct, step-read-distinct}
+use Rattle.reading.specs.Reading.{countingTold, emptinessTold, ruleTold, styleTold, entryTold, combinatorTold, sheetVerdict, ruleVerdict, weightVerdict, emptinessOf, ruleNumbers, styleNumbers, entryNumbers, combinatorNumbers, styleThere, StepRead}
+use Rattle.reading.proofs.Distinct.{counting-distinct, emptiness-distinct, rule-distinct, style-distinct, entry-distinct, combinator-distinct, step-read-distinct}
 use Rattle.builder.specs.Answers.{Push}
 use Rattle.builder.specs.declared.Pushing.{Pushing}
 use Rattle.builder.proofs.Pushes.{push-determined}

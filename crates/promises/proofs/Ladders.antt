@@ -23,7 +23,7 @@ use Rattle.selector.specs.declared.Diagnosis.{Diagnosis}
 use Rattle.selector.specs.declared.Diagnosis.the-variants as diagnosis
 use Rattle.style.specs.Entries.{Entry}
 use Rattle.style.specs.Looking.{kindOf, plainOf, resourceOf, placeIn}
-use Rattle.sheet.specs.Reading.{entryNumbers, combinatorNumbers}
+use Rattle.reading.specs.Reading.{entryNumbers, combinatorNumbers}
 use Rattle.matcher.proofs.Answers.{accepted}
 use Rattle.winners.specs.Winners.{Place, style, rule}
 use Rattle.cascade.specs.Answers.{winnerTold}

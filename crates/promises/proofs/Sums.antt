@@ -26,7 +26,8 @@ use Rattle.typed.specs.declared.SelectorStep.{SelectorStep}
 use Rattle.typed.specs.Typed.{typeOf, partOf, stepTags, classNumber, pseudoNumber, over}
 use Rattle.sheet.specs.Layout.{rulesIn}
 use Rattle.sheet.specs.Shape.{sheetShape}
-use Rattle.sheet.specs.Reading.{weightVerdict, weightFrom}
+use Rattle.weighed.specs.Weighing.{weightFrom}
+use Rattle.reading.specs.Reading.{weightVerdict}
 use Rattle.matcher.proofs.Answers as answers
 use Rattle.promises.specs.Level3.{Standard}
 

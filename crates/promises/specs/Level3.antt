@@ -8,7 +8,7 @@ use Rattle.theory.specs.Reading.{chainOf, elementOf, simples}
 use Rattle.theory.specs.Weight.{Counts, weightOf}
 use Rattle.selector.specs.declared.Specificity.{Specificity}
 use Rattle.selector.specs.Tags.{Tags, stepMatches}
-use Rattle.sheet.specs.Reading.{weightFrom}
+use Rattle.weighed.specs.Weighing.{weightFrom}
 
 -- The selector represents the path's last element; the subjects before are its ancestors. §4: an empty selector is none, and an empty path has no last
 abbrev pub RepresentsLast : Selector Tags → List Tags → Type 0

@@ -2,7 +2,3 @@
 pub mod ShapeLaws
 pub mod Shaped
 pub mod ReadLaws
-pub mod Answers
-pub mod Distinct
-pub mod Readers
-pub mod Saturation

@@ -14,7 +14,7 @@ use Rattle.lent.specs.Pool.{endsIn, startOf, listAt}
 use Rattle.selector.specs.Rows.{rowAt, wordsFrom}
 use Rattle.sheet.specs.Layout
 use Rattle.sheet.specs.Sheets.{ruleStepEnds}
-use Rattle.sheet.specs.Shape.{entriesFit, endToEnd, firstUntied, propertiesAscend, poolFits, idsAt, endsAt, idsMeet}
+use Rattle.sheet.specs.Shape.{entriesFit, endToEnd, firstUntied, propertiesAscend, typeFlagFits, partFlagFits, classesFit, pseudosFit, classesAscend, pseudosAscend, combinatorFits, stepFine, poolFits, idsAt, endsAt, idsMeet}
 
 -- ---- tests one after the other
 
@@ -78,22 +78,57 @@ module _ (w : List ℕ) (r first to : ℕ) (e : first ≡ startOf (ruleStepEnds 
 
 -- ---- steps
 
-module _ (w : List ℕ) (place at : ℕ) (q : at ≡ place) where
-  -- the first word of a row, and the one c further
-  pub row-first : (x n : ℕ) → x ≡ getD w at 0 → leb x n ≡ leb (getD w place 0) n
-  row-first x n e = rw (e, q)
+-- ids in a row that stands at `place`
+pub ids-rise : (w : List ℕ) (place at from count : ℕ) (l : List ℕ) (b : Bool) → at ≡ place → l ≡ wordsFrom w (at + from) (getD w (at + count) 0) → b ≡ ascends l
+    → b ≡ ascends (wordsFrom w (place + from) (getD w (place + count) 0))
+ids-rise w place at from count l b q e f = rw (← q, ← e) f
 
-  pub row-word : (c x n : ℕ) → x ≡ getD w (at + c) 0 → leb x n ≡ leb (getD w (place + c) 0) n
-  row-word c x n e = rw (e, q)
+four : (x y z u v : Bool) → ((x && (y && (z && u))) && v) ≡ (x && (y && (z && (u && v))))
+four false y z u v = refl
+four true false z u v = refl
+four true true false u v = refl
+four true true true u v = refl
 
-  -- its ids
-  pub row-classes : (l : List ℕ) (b : Bool) → l ≡ wordsFrom w (at + 6) (getD w (at + 4) 0) → b ≡ ascends l → b ≡ ascends (rowAt 8 w place .classes)
-  unfolding rowAt
-  row-classes l b e f = rw (← q, ← e) f
+-- what was read of step s, as a clause of its shape
+module _ (w : List ℕ) (s : ℕ) (b : Bool) where
+  step-word : (c n : ℕ) → b ≡ leb (endsIn w (Layout.STEP + c) Layout.STEP-WORDS s) n → b ≡ leb (getD w (Layout.stepPlace s + c) 0) n
+  unfolding endsIn
+  step-word c n e = let z : Layout.STEP + c + Layout.STEP-WORDS * s ≡ Layout.stepPlace s + c = omega arith in rw z at e
 
-  pub row-pseudos : (l : List ℕ) (b : Bool) → l ≡ wordsFrom w (at + 14) (getD w (at + 5) 0) → b ≡ ascends l → b ≡ ascends (rowAt 8 w place .pseudos)
-  unfolding rowAt
-  row-pseudos l b e f = rw (← q, ← e) f
+  pub type-flag : b ≡ leb (endsIn w 1288 23 s) 1 → b ≡ typeFlagFits w s
+  unfolding typeFlagFits endsIn
+  type-flag e = e
+
+  pub part-flag : b ≡ leb (endsIn w 1290 23 s) 1 → b ≡ partFlagFits w s
+  unfolding partFlagFits
+  part-flag e = step-word 2 1 e
+
+  pub class-count : b ≡ leb (endsIn w 1292 23 s) 8 → b ≡ classesFit w s
+  unfolding classesFit
+  class-count e = step-word 4 8 e
+
+  pub pseudo-count : b ≡ leb (endsIn w 1293 23 s) 8 → b ≡ pseudosFit w s
+  unfolding pseudosFit
+  pseudo-count e = step-word 5 8 e
+
+  pub classes-rise : b ≡ ascends (wordsFrom w (Layout.stepPlace s + 6) (getD w (Layout.stepPlace s + 4) 0)) → b ≡ classesAscend w s
+  unfolding classesAscend rowAt
+  classes-rise e = e
+
+  pub pseudos-rise : b ≡ ascends (wordsFrom w (Layout.stepPlace s + 14) (getD w (Layout.stepPlace s + 5) 0)) → b ≡ pseudosAscend w s
+  unfolding pseudosAscend rowAt
+  pseudos-rise e = e
+
+  pub combinator-code : b ≡ leb (endsIn w 1310 23 s) 1 → b ≡ combinatorFits w s
+  unfolding combinatorFits
+  combinator-code e = e
+
+  -- all of them, the first four together
+  pub step-parts : b ≡ ((typeFlagFits w s && (partFlagFits w s && (classesFit w s && pseudosFit w s))) && (classesAscend w s && (pseudosAscend w s && combinatorFits w s))) → b ≡ stepFine w s
+  unfolding stepFine
+  step-parts e = e ∙ four (typeFlagFits w s) (partFlagFits w s) (classesFit w s) (pseudosFit w s) _
+
+pub ruleset cells = (type-flag, part-flag, class-count, pseudo-count, classes-rise, pseudos-rise, combinator-code)
 
 -- ---- pools
 

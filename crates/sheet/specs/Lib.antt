@@ -2,4 +2,3 @@ pub mod Layout
 pub mod Sheets
 pub mod Shape
 pub mod Laying
-pub mod Reading

@@ -1,5 +1,6 @@
 -- A sheet, and the sheet that words hold: 01, "Weight, winners, changes". Assumes nothing.
-use mathlib.Core.List.{List, _++_, map}
+use mathlib.Core.Bool.{Bool, true, false}
+use mathlib.Core.List.{List, [], _∷_, _++_, map}
 use Prim.Native.Nat.{ℕ, _+_, _-_, _*_}
 use lib.ListN.{getD}
 use Rattle.theory.specs.Lists.{spread}
@@ -32,6 +33,10 @@ pub record Sheet : Type 0 where
   pub next : ℕ
   pub styles : List Style
   pub rules : List Rule
+
+abbrev pub isNil : {A : Type 0} → List A → Bool
+isNil [] = true
+isNil (x ∷ l) = false
 
 -- ---- keys
 

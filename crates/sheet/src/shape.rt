@@ -12,13 +12,16 @@ use lent::words::wide;
 use lent::words::word;
 use selector::held::ids;
 ghost use mathlib.Core.Path.{_≡_};
-ghost use mathlib.Core.Bool.{true};
-ghost use Prim.Native.Nat.{_-_, _≤_, _<_};
-ghost use Rattle.theory.specs.Lists.{sumBelow};
+ghost use mathlib.Core.Bool.{true, _&&_};
+ghost use Prim.Native.Nat.{_+_, _-_, _≤_, _<_};
+ghost use lib.ListN.{getD};
+ghost use lib.Dec.{leb};
+ghost use Rattle.theory.specs.Lists.{ascends, atMost, sumBelow};
 ghost use Rattle.lent.specs.All.{allBelow};
 ghost use Rattle.lent.specs.Pool.{endsIn, startOf};
+ghost use Rattle.selector.specs.Rows.{wordsFrom};
 ghost use Rattle.sheet.specs.Layout.{stepPlace};
-ghost use Rattle.sheet.specs.Shape.{roomEnough, rulesFit, stepsFit, idsFit, nextFits, ruleCountsFit, stylesFit, styleEntriesFit, entriesFit, styleCountsFit, countsFit, endToEnd, notLonger, listFits, originFits, sourceFits, propertiesAscend, firstUntied, ruleListsFit, ruleFine, styleFine, typeFlagFits, partFlagFits, classesFit, pseudosFit, classesAscend, pseudosAscend, combinatorFits, stepFine, propertiesFit, kindsFit, poolFits, idsAt, endsAt, idsMeet, endsMeet, rowsFine, poolsFit, sheetShape};
+ghost use Rattle.sheet.specs.Shape.{roomEnough, ruleCountsFit, entriesFit, styleCountsFit, countsFit, endToEnd, listFits, propertiesAscend, firstUntied, ruleListsFit, ruleFine, styleFine, typeFlagFits, partFlagFits, classesFit, pseudosFit, stepFine, poolFits, idsAt, endsAt, idsMeet, endsMeet, rowsFine, poolsFit, sheetShape};
 
 fn room_enough(sheet: &[u32]) -> bool
     ensures { λ r. ⌜ r ≡ roomEnough (now (sheet .entry)) ⌝ }
@@ -26,55 +29,26 @@ fn room_enough(sheet: &[u32]) -> bool
     layout::SHEET_WORDS <= sheet.len()
 }
 
-fn rules_fit(sheet: &[u32]) -> bool
-    ensures { λ r. ⌜ r ≡ rulesFit (now (sheet .entry)) ⌝ }
+// Word `at` is at most `limit`.
+fn word_fits(sheet: &[u32], at: usize, limit: u32) -> bool
+    ensures { λ r. ⌜ r ≡ leb (getD (now (sheet .entry)) at 0) limit ⌝ }
 {
-    word(sheet, layout::RULES) <= 256
-}
-
-fn steps_fit(sheet: &[u32]) -> bool
-    ensures { λ r. ⌜ r ≡ stepsFit (now (sheet .entry)) ⌝ }
-{
-    word(sheet, layout::STEPS) <= 2048
-}
-
-fn ids_fit(sheet: &[u32]) -> bool
-    ensures { λ r. ⌜ r ≡ idsFit (now (sheet .entry)) ⌝ }
-{
-    word(sheet, layout::IDS) <= 8192
-}
-
-fn next_fits(sheet: &[u32]) -> bool
-    ensures { λ r. ⌜ r ≡ nextFits (now (sheet .entry)) ⌝ }
-{
-    word(sheet, layout::NEXT_SOURCE) <= 65536
+    word(sheet, at) <= limit
 }
 
 fn rule_counts_fit(sheet: &[u32]) -> bool
     ensures { λ r. ⌜ r ≡ ruleCountsFit (now (sheet .entry)) ⌝ }
 {
-    if !rules_fit(sheet) {
+    if !word_fits(sheet, layout::RULES, 256) {
         return false;
     }
-    if !steps_fit(sheet) {
+    if !word_fits(sheet, layout::STEPS, 2048) {
         return false;
     }
-    if !ids_fit(sheet) {
+    if !word_fits(sheet, layout::IDS, 8192) {
         return false;
     }
-    next_fits(sheet)
-}
-
-fn styles_fit(sheet: &[u32]) -> bool
-    ensures { λ r. ⌜ r ≡ stylesFit (now (sheet .entry)) ⌝ }
-{
-    word(sheet, layout::STYLES) <= 64
-}
-
-fn style_entries_fit(sheet: &[u32]) -> bool
-    ensures { λ r. ⌜ r ≡ styleEntriesFit (now (sheet .entry)) ⌝ }
-{
-    word(sheet, layout::STYLE_ENTRIES) <= 2048
+    word_fits(sheet, layout::NEXT_SOURCE, 65536)
 }
 
 fn entries_fit(sheet: &[u32]) -> bool
@@ -87,10 +61,10 @@ fn entries_fit(sheet: &[u32]) -> bool
 fn style_counts_fit(sheet: &[u32]) -> bool
     ensures { λ r. ⌜ r ≡ styleCountsFit (now (sheet .entry)) ⌝ }
 {
-    if !styles_fit(sheet) {
+    if !word_fits(sheet, layout::STYLES, 64) {
         return false;
     }
-    if !style_entries_fit(sheet) {
+    if !word_fits(sheet, layout::STYLE_ENTRIES, 2048) {
         return false;
     }
     entries_fit(sheet)
@@ -116,7 +90,7 @@ pub fn end_to_end(sheet: &[u32], ends: Column, k: u32) -> bool
 }
 
 // How many elements list k has.
-pub(crate) fn list_length(sheet: &[u32], ends: Column, k: u32) -> u32
+pub fn list_length(sheet: &[u32], ends: Column, k: u32) -> u32
     ensures { λ r. ⌜ r ≡ endsIn (now (sheet .entry)) (ends .base) (ends .stride) k - startOf (endsIn (now (sheet .entry)) (ends .base) (ends .stride)) k ⌝ }
 {
     let from = start_of(sheet, ends, k);
@@ -127,31 +101,20 @@ pub(crate) fn list_length(sheet: &[u32], ends: Column, k: u32) -> u32
     to - from
 }
 
-fn not_longer(sheet: &[u32], ends: Column, size: u32, k: u32) -> bool
-    ensures { λ r. ⌜ r ≡ notLonger (endsIn (now (sheet .entry)) (ends .base) (ends .stride)) size k ⌝ }
-{
-    list_length(sheet, ends, k) <= size
-}
-
 fn list_fits(sheet: &[u32], ends: Column, size: u32, k: u32) -> bool
     ensures { λ r. ⌜ r ≡ listFits (endsIn (now (sheet .entry)) (ends .base) (ends .stride)) size k ⌝ }
 {
     if !end_to_end(sheet, ends, k) {
         return false;
     }
-    not_longer(sheet, ends, size, k)
+    list_length(sheet, ends, k) <= size
 }
 
-fn origin_fits(sheet: &[u32], origins: Column, k: u32) -> bool
-    ensures { λ r. ⌜ r ≡ originFits (now (sheet .entry)) (origins .base) (origins .stride) k ⌝ }
+// Row k of a column.
+fn cell_fits(sheet: &[u32], column: Column, k: u32, limit: u32) -> bool
+    ensures { λ r. ⌜ r ≡ leb (endsIn (now (sheet .entry)) (column .base) (column .stride) k) limit ⌝ }
 {
-    cell(sheet, origins, k) <= 7
-}
-
-fn source_fits(sheet: &[u32], sources: Column, k: u32) -> bool
-    ensures { λ r. ⌜ r ≡ sourceFits (now (sheet .entry)) (sources .base) (sources .stride) k ⌝ }
-{
-    cell(sheet, sources, k) <= 65535
+    cell(sheet, column, k) <= limit
 }
 
 fn properties_ascend(sheet: &[u32], pool: usize, ends: Column, k: u32) -> bool
@@ -190,10 +153,10 @@ fn rule_lists_fit(sheet: &[u32], r: u32) -> bool
 fn rule_fine(sheet: &[u32], r: u32) -> bool
     ensures { λ b. ⌜ b ≡ ruleFine (now (sheet .entry)) r ⌝ }
 {
-    if !origin_fits(sheet, layout::RULE_ORIGINS, r) {
+    if !cell_fits(sheet, layout::RULE_ORIGINS, r, 7) {
         return false;
     }
-    if !source_fits(sheet, layout::RULE_SOURCES, r) {
+    if !cell_fits(sheet, layout::RULE_SOURCES, r, 65535) {
         return false;
     }
     rule_lists_fit(sheet, r)
@@ -203,10 +166,10 @@ fn style_fine(sheet: &[u32], d: u32) -> bool
     ensures { λ b. ⌜ b ≡ styleFine (now (sheet .entry)) d ⌝ }
 {
     let entries = layout::STYLE_ENTRY_ENDS;
-    if !origin_fits(sheet, layout::STYLE_ORIGINS, d) {
+    if !cell_fits(sheet, layout::STYLE_ORIGINS, d, 7) {
         return false;
     }
-    if !source_fits(sheet, layout::STYLE_SOURCES, d) {
+    if !cell_fits(sheet, layout::STYLE_SOURCES, d, 65535) {
         return false;
     }
     if !list_fits(sheet, entries, 32, d) {
@@ -222,75 +185,45 @@ pub fn step_place(s: u32) -> usize
     wide(layout::STEP) + wide(layout::STEP_WORDS) * wide(s)
 }
 
-fn type_flag_fits(sheet: &[u32], s: u32) -> bool
-    ensures { λ r. ⌜ r ≡ typeFlagFits (now (sheet .entry)) s ⌝ }
-{
-    word(sheet, step_place(s)) <= 1
-}
-
-fn part_flag_fits(sheet: &[u32], s: u32) -> bool
-    ensures { λ r. ⌜ r ≡ partFlagFits (now (sheet .entry)) s ⌝ }
-{
-    word(sheet, step_place(s) + 2) <= 1
-}
-
-fn classes_fit(sheet: &[u32], s: u32) -> bool
-    ensures { λ r. ⌜ r ≡ classesFit (now (sheet .entry)) s ⌝ }
-{
-    word(sheet, step_place(s) + 4) <= 8
-}
-
-fn pseudos_fit(sheet: &[u32], s: u32) -> bool
-    ensures { λ r. ⌜ r ≡ pseudosFit (now (sheet .entry)) s ⌝ }
-{
-    word(sheet, step_place(s) + 5) <= 8
-}
-
-fn classes_ascend(sheet: &[u32], s: u32) -> bool
-    requires { ⌜ s < 2048 ⌝ }
-    ensures { λ r. ⌜ r ≡ classesAscend (now (sheet .entry)) s ⌝ }
+// The ids of step s that stand from word `from` of its row on, as many as word `count` says.
+fn ids_ascend(sheet: &[u32], s: u32, from: usize, count: usize) -> bool
+    requires { ⌜ (s < 2048) × (from ≤ 22) × (count ≤ 22) ⌝ }
+    ensures { λ r. ⌜ r ≡ ascends (wordsFrom (now (sheet .entry)) (stepPlace s + from) (getD (now (sheet .entry)) (stepPlace s + count) 0)) ⌝ }
 {
     let at = step_place(s);
-    is_ascending(ids(sheet, at + 6, at + 4))
+    is_ascending(ids(sheet, at + from, at + count))
 }
 
-fn pseudos_ascend(sheet: &[u32], s: u32) -> bool
-    requires { ⌜ s < 2048 ⌝ }
-    ensures { λ r. ⌜ r ≡ pseudosAscend (now (sheet .entry)) s ⌝ }
+// The flags and the counts of step s.
+fn step_words_fit(sheet: &[u32], s: u32) -> bool
+    ensures { λ r. ⌜ r ≡ (typeFlagFits (now (sheet .entry)) s && (partFlagFits (now (sheet .entry)) s && (classesFit (now (sheet .entry)) s && pseudosFit (now (sheet .entry)) s))) ⌝ }
 {
-    let at = step_place(s);
-    is_ascending(ids(sheet, at + 14, at + 5))
-}
-
-fn combinator_fits(sheet: &[u32], s: u32) -> bool
-    ensures { λ r. ⌜ r ≡ combinatorFits (now (sheet .entry)) s ⌝ }
-{
-    cell(sheet, layout::STEP_COMBINATORS, s) <= 1
+    if !cell_fits(sheet, layout::STEP_TYPE_FLAGS, s, 1) {
+        return false;
+    }
+    if !cell_fits(sheet, layout::STEP_PART_FLAGS, s, 1) {
+        return false;
+    }
+    if !cell_fits(sheet, layout::STEP_CLASS_COUNTS, s, 8) {
+        return false;
+    }
+    cell_fits(sheet, layout::STEP_PSEUDO_COUNTS, s, 8)
 }
 
 fn step_fine(sheet: &[u32], s: u32) -> bool
     requires { ⌜ s < 2048 ⌝ }
     ensures { λ b. ⌜ b ≡ stepFine (now (sheet .entry)) s ⌝ }
 {
-    if !type_flag_fits(sheet, s) {
+    if !step_words_fit(sheet, s) {
         return false;
     }
-    if !part_flag_fits(sheet, s) {
+    if !ids_ascend(sheet, s, 6, 4) {
         return false;
     }
-    if !classes_fit(sheet, s) {
+    if !ids_ascend(sheet, s, 14, 5) {
         return false;
     }
-    if !pseudos_fit(sheet, s) {
-        return false;
-    }
-    if !classes_ascend(sheet, s) {
-        return false;
-    }
-    if !pseudos_ascend(sheet, s) {
-        return false;
-    }
-    combinator_fits(sheet, s)
+    cell_fits(sheet, layout::STEP_COMBINATORS, s, 1)
 }
 
 fn rules_fine(sheet: &[u32], n: u32) -> bool
@@ -346,30 +279,23 @@ fn rows_fine(sheet: &[u32]) -> bool
     styles_fine(sheet, word(sheet, layout::STYLES))
 }
 
+// n words from `base` on.
+fn words_fit(sheet: &[u32], base: usize, n: u32, limit: u32) -> bool
+    requires { ⌜ base ≤ 200000 ⌝ }
+    ensures { λ r. ⌜ r ≡ atMost limit (wordsFrom (now (sheet .entry)) base n) ⌝ }
+{
+    at_most(part(sheet, base, base + wide(n)), limit)
+}
+
 // The n entries of a pool.
-fn properties_fit(sheet: &[u32], base: usize, n: u32) -> bool
-    requires { ⌜ base ≤ 100000 ⌝ }
-    ensures { λ r. ⌜ r ≡ propertiesFit (now (sheet .entry)) base n ⌝ }
-{
-    at_most(part(sheet, base, base + wide(n)), 65535)
-}
-
-fn kinds_fit(sheet: &[u32], base: usize, room: usize, n: u32) -> bool
-    requires { ⌜ (base ≤ 100000) × (room ≤ 4096) ⌝ }
-    ensures { λ r. ⌜ r ≡ kindsFit (now (sheet .entry)) base room n ⌝ }
-{
-    let kinds = base + room;
-    at_most(part(sheet, kinds, kinds + wide(n)), 3)
-}
-
 fn pool_fits(sheet: &[u32], base: usize, room: usize, n: u32) -> bool
     requires { ⌜ (base ≤ 100000) × (room ≤ 4096) ⌝ }
     ensures { λ r. ⌜ r ≡ poolFits (now (sheet .entry)) base room n ⌝ }
 {
-    if !properties_fit(sheet, base, n) {
+    if !words_fit(sheet, base, n, 65535) {
         return false;
     }
-    kinds_fit(sheet, base, room, n)
+    words_fit(sheet, base + room, n, 3)
 }
 
 fn pools_fit(sheet: &[u32]) -> bool

@@ -22,7 +22,7 @@ use Rattle.lent.proofs.Buffers.{held-take, held-length}
 use Rattle.sheet.specs.Layout.{rulesIn}
 use Rattle.sheet.specs.Sheets.{partAt, between, ruleStepEnds}
 use Rattle.sheet.specs.Shape.{sheetShape}
-use Rattle.sheet.proofs.Answers.{length-between}
+use Rattle.sheet.proofs.ReadLaws.{length-between}
 use Rattle.sheet.proofs.Shaped.{shaped}
 use Rattle.table.specs.Tables
 use Rattle.table.specs.Tables.{selectorsOf}

@@ -18,8 +18,7 @@ use Rattle.lent.specs.Pool.{startOf}
 use Rattle.sheet.specs.Layout.{rulesIn}
 use Rattle.sheet.specs.Sheets.{partAt, ruleAt, sheetOf, between, ruleStepEnds}
 use Rattle.sheet.specs.Shape.{sheetShape}
-use Rattle.sheet.proofs.Answers.{length-between, between-at}
-use Rattle.sheet.proofs.ReadLaws.{rule-steps}
+use Rattle.sheet.proofs.ReadLaws.{rule-steps, length-between, between-at}
 use Rattle.table.specs.Tables.{selectorsOf}
 
 -- ---- by rule number

@@ -1,0 +1,2 @@
+// The weight of a sheet's rule.
+pub mod held;
