@@ -6,7 +6,6 @@ use cascade::held::winning_source;
 use lent::words::copy_into;
 use lent::words::widen_into;
 use lent::words::word;
-use matcher::held::enter_subject;
 use matcher::held::matching_rules;
 use records::Record;
 use records::held::half;

@@ -1,7 +1,7 @@
 use borrow.Author.Needs.{needs}
-use Rattle.matcher.proofs.Entered.{few-both}
-use Rattle.matcher.proofs.held.settle_next.Statement.{statement}
-use Rattle.matcher.proofs.held.settle_next.Tie as tie
+use Rattle.entering.proofs.Entered.{few-both}
+use Rattle.entering.proofs.held.settle_next.Statement.{statement}
+use Rattle.entering.proofs.held.settle_next.Tie as tie
 
 are-few-requires : tie.Need-are-few-requires
 are-few-requires c κs = search needs
