@@ -72,65 +72,7 @@ fn are_few(states: &[u32], cursors: &[u32], parent: u32) -> bool
     list_of(states, ends, cursors, 0).len() <= 48
 }
 
-// Small buffers: to clear large ones takes longer than all the rest.
-fn settle_few(
-    sheet: &[u32],
-    head: &mut [u32],
-    states: &mut [u32],
-    cursors: &mut [u32],
-    matched: &mut [u32],
-    parent: u32,
-    row: &[u32],
-) -> Settled
-    requires { ⌜ (sheetShape (now sheet) ≡ true) × Parents (now sheet) (now states) (now cursors) parent ⌝ }
-    requires { ⌜ tagsAscend (rowAt 16 (now row) 0) ≡ true ⌝ }
-    requires { ⌜ (length (cursorsAt (now states) (now cursors) parent) ≤ 48) × (length (cursorsAt (now states) (now cursors) 0) ≤ 48) ⌝ }
-    ensures { λ r. ⌜ ((t : List ℕ) → Settles (table (now (head .entry)) (now (states .entry)) (now (cursors .entry)) (now (matched .entry)) t) (nextState (now (sheet .entry)) (table (now (head .entry)) (now (states .entry)) (now (cursors .entry)) (now (matched .entry)) t) parent (rowAt 16 (now (row .entry)) 0)) r (table (now (head .exit)) (now (states .exit)) (now (cursors .exit)) (now (matched .exit)) t)) ⌝ }
-{
-    let mut next = [0u32; 194];
-    let mut listed = [0u32; 98];
-    settle_in(
-        sheet,
-        head,
-        states,
-        cursors,
-        matched,
-        parent,
-        row,
-        &mut next,
-        &mut listed,
-    )
-}
-
-// As many words as there can be cursors and rules.
-fn settle_many(
-    sheet: &[u32],
-    head: &mut [u32],
-    states: &mut [u32],
-    cursors: &mut [u32],
-    matched: &mut [u32],
-    parent: u32,
-    row: &[u32],
-) -> Settled
-    requires { ⌜ (sheetShape (now sheet) ≡ true) × Parents (now sheet) (now states) (now cursors) parent ⌝ }
-    requires { ⌜ tagsAscend (rowAt 16 (now row) 0) ≡ true ⌝ }
-    ensures { λ r. ⌜ ((t : List ℕ) → Settles (table (now (head .entry)) (now (states .entry)) (now (cursors .entry)) (now (matched .entry)) t) (nextState (now (sheet .entry)) (table (now (head .entry)) (now (states .entry)) (now (cursors .entry)) (now (matched .entry)) t) parent (rowAt 16 (now (row .entry)) 0)) r (table (now (head .exit)) (now (states .exit)) (now (cursors .exit)) (now (matched .exit)) t)) ⌝ }
-{
-    let mut next = [0u32; 2050];
-    let mut listed = [0u32; 258];
-    settle_in(
-        sheet,
-        head,
-        states,
-        cursors,
-        matched,
-        parent,
-        row,
-        &mut next,
-        &mut listed,
-    )
-}
-
+// The same with buffers of its own: small ones where they do, for to clear large ones takes longer than all the rest; else as many words as there can be cursors and rules.
 fn settle_next(
     sheet: &[u32],
     head: &mut [u32],
@@ -145,9 +87,33 @@ fn settle_next(
     ensures { λ r. ⌜ ((t : List ℕ) → Settles (table (now (head .entry)) (now (states .entry)) (now (cursors .entry)) (now (matched .entry)) t) (nextState (now (sheet .entry)) (table (now (head .entry)) (now (states .entry)) (now (cursors .entry)) (now (matched .entry)) t) parent (rowAt 16 (now (row .entry)) 0)) r (table (now (head .exit)) (now (states .exit)) (now (cursors .exit)) (now (matched .exit)) t)) ⌝ }
 {
     if are_few(states, cursors, parent) {
-        return settle_few(sheet, head, states, cursors, matched, parent, row);
+        let mut next = [0u32; 194];
+        let mut listed = [0u32; 98];
+        return settle_in(
+            sheet,
+            head,
+            states,
+            cursors,
+            matched,
+            parent,
+            row,
+            &mut next,
+            &mut listed,
+        );
     }
-    settle_many(sheet, head, states, cursors, matched, parent, row)
+    let mut next = [0u32; 2050];
+    let mut listed = [0u32; 258];
+    settle_in(
+        sheet,
+        head,
+        states,
+        cursors,
+        matched,
+        parent,
+        row,
+        &mut next,
+        &mut listed,
+    )
 }
 
 // Entering the subject of a row under the state with the number `parent`.

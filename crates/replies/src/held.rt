@@ -3,6 +3,7 @@ use crate::Replied;
 use crate::say;
 use cascade::held::changed_properties;
 use cascade::held::winning_source;
+use entering::held::enter_subject;
 use lent::words::copy_into;
 use lent::words::widen_into;
 use lent::words::word;

@@ -1,16 +1,22 @@
 use borrow.Author.Needs.{needs}
-use Rattle.entering.proofs.Entered.{few-both}
+use Rattle.entering.proofs.Entered.{few-both, room-small, room-large}
 use Rattle.entering.proofs.held.settle_next.Statement.{statement}
 use Rattle.entering.proofs.held.settle_next.Tie as tie
 
 are-few-requires : tie.Need-are-few-requires
 are-few-requires c κs = search needs
 
-settle-few-requires : tie.Need-settle-few-requires
-settle-few-requires c κs =
-    let t = c .before .before .before .before in
+slice-aggregate-settle-in : tie.Need-slice-aggregate-settle-in
+slice-aggregate-settle-in c = search needs
+
+slice-aggregate-settle-in-2 : tie.Need-slice-aggregate-settle-in-2
+slice-aggregate-settle-in-2 c = search needs
+
+settle-in-requires : tie.Need-settle-in-requires
+settle-in-requires c κs =
+    let t = c .before .before .before .before .before .before in
     let q = t .before .before .before .before .before .before .before .before .before .before .pre in
-    (q .0, (q .1, few-both _ _ _ (t .before .are-few .ensures) (t .if1 .taken)))
+    (q .0, (q .1, room-small _ _ _ _ _ _ (few-both _ _ _ (t .before .are-few .ensures) (t .if1 .taken)) (search needs) (search needs)))
 
 same-length : tie.Need-same-length
 same-length c = search needs
@@ -27,8 +33,14 @@ same-length-4 c = search needs
 returns : tie.Need-returns
 returns c = search needs
 
-settle-many-requires : tie.Need-settle-many-requires
-settle-many-requires c κs = search needs
+slice-aggregate-settle-in-3 : tie.Need-slice-aggregate-settle-in-3
+slice-aggregate-settle-in-3 c = search needs
+
+slice-aggregate-settle-in-4 : tie.Need-slice-aggregate-settle-in-4
+slice-aggregate-settle-in-4 c = search needs
+
+settle-in-requires-2 : tie.Need-settle-in-requires-2
+settle-in-requires-2 c κs = let q = c .before .before .before .before .before .before .before .before .before .before .before .before .before .before .before .before .pre in (q .0, (q .1, room-large _ _ _ _ _ _ (q .0 .0) (search needs) (search needs)))
 
 same-length-5 : tie.Need-same-length-5
 same-length-5 c = search needs
@@ -50,13 +62,17 @@ settle-next-spec =
     tie.close
     (tie.spec
     are-few-requires
-    settle-few-requires
+    slice-aggregate-settle-in
+    slice-aggregate-settle-in-2
+    settle-in-requires
     same-length
     same-length-2
     same-length-3
     same-length-4
     returns
-    settle-many-requires
+    slice-aggregate-settle-in-3
+    slice-aggregate-settle-in-4
+    settle-in-requires-2
     same-length-5
     same-length-6
     same-length-7
