@@ -175,7 +175,7 @@ module _ (w : List ℕ) where
 pub pushes-determined : (verdict : ℕ) (before pushed : List ℕ) → Determined (λ (o : Pushing × List ℕ). Push verdict before pushed (o .0) (o .1))
 pushes-determined verdict before pushed a b p q = pairs (push-determined p q)
 
--- ---- matcher. `build` is lent the first three pieces of a table, and its contract holds whatever the other two are; `enter_subject` is lent all five
+-- ---- matcher, entering. `build` is lent the first three pieces of a table, and its contract holds whatever the other two are; `enter_subject` is lent all five
 
 pub builds-determined : (w : List ℕ) (stamp ranking : ℕ) (head states cursors : List ℕ)
     → Determined (λ (o : Building × List ℕ × List ℕ × List ℕ).
