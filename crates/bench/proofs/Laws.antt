@@ -16,9 +16,11 @@ use Rattle.table.specs.Tables.{Table, table}
 use Rattle.table.specs.Entering.{lacksRoom, childOf, entered}
 use Rattle.table.specs.Calls.{buildVerdict, enterVerdict}
 use Rattle.matcher.specs.declared.Building.{Building}
-use Rattle.matcher.specs.declared.Entering.{Entering}
-use Rattle.matcher.specs.Answers as answers
-use Rattle.matcher.proofs.Answers.{accepted, refused, entered-is}
+use Rattle.matcher.specs.Answers.{Build}
+use Rattle.matcher.proofs.Answers.{accepted, refused}
+use Rattle.entering.specs.declared.Entering.{Entering}
+use Rattle.entering.specs.Answers as answers
+use Rattle.entering.proofs.Answers.{entered-is}
 use Rattle.bench.specs.Numbers.{REFUSED, pushNumber, buildNumber, enterNumber, settledNumber, Outcome, Builds, Enters, EntersHeld, Copied}
 
 module _ {M : Type 0} (v n : ℕ) (before acc after : M) (m : after ≡ cond (eqb v 0) acc before) (r : ℕ) where
@@ -33,12 +35,12 @@ push-is v before pushed Pushing.Pushed after r u e = outcome-yes v 0 before push
 push-is v before pushed (Pushing.Refused x) after r u e = outcome-no v 0 before pushed after (u .memory) r (refused v x [] (u .answer)) e
 
 module _ (w : List ℕ) where
-  build-is : (stamp : ℕ) (t : Table) (b : Building) (t′ : Table) (r : ℕ) → answers.Build w stamp 0 t b t′ → r ≡ buildNumber b → Builds w stamp t r t′
+  build-is : (stamp : ℕ) (t : Table) (b : Building) (t′ : Table) (r : ℕ) → Build w stamp 0 t b t′ → r ≡ buildNumber b → Builds w stamp t r t′
   build-is stamp t Building.Built t′ r u e = outcome-yes _ 0 t _ t′ (u .memory) r (accepted (buildVerdict w 0 (t .states) (t .cursors)) [] _ (u .answer)) e
   build-is stamp t (Building.Refused x) t′ r u e = outcome-no _ 0 t _ t′ (u .memory) r (refused (buildVerdict w 0 (t .states) (t .cursors)) x [] (u .answer)) e
 
   -- whatever stands in what the call is not lent
-  pub build-all : (stamp : ℕ) (h s c h′ s′ c′ : List ℕ) (b : Building) (r : ℕ) → ((m t : List ℕ) → answers.Build w stamp 0 (table h s c m t) b (table h′ s′ c′ m t)) → r ≡ buildNumber b
+  pub build-all : (stamp : ℕ) (h s c h′ s′ c′ : List ℕ) (b : Building) (r : ℕ) → ((m t : List ℕ) → Build w stamp 0 (table h s c m t) b (table h′ s′ c′ m t)) → r ≡ buildNumber b
       → (m t : List ℕ) → Builds w stamp (table h s c m t) r (table h′ s′ c′ m t)
   build-all stamp h s c h′ s′ c′ b r u e m t = build-is stamp (table h s c m t) b (table h′ s′ c′ m t) r (u m t) e
 

@@ -44,7 +44,7 @@ pub extern "C" fn bench_held_enter(
     requires { ⌜ (rowFits 16 (now row) 0 ≡ true) × (tagsAscend (rowAt 16 (now row) 0) ≡ true) ⌝ }
     ensures { λ r. ⌜ EntersHeld (now (sheet .entry)) (table (now (head .entry)) (now (states .entry)) (now (cursors .entry)) (now (matched .entry)) (now (transitions .entry))) parent (now (row .entry)) r (table (now (head .exit)) (now (states .exit)) (now (cursors .exit)) (now (matched .exit)) (now (transitions .exit))) ⌝ }
 {
-    let settled = matcher::held::enter_subject(
+    let settled = entering::held::enter_subject(
         sheet,
         head,
         states,

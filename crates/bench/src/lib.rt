@@ -1,8 +1,8 @@
 // For measuring: the public calls under plain names, with numbers and slices only. Linked by the Rust program in bench/.
 use builder::Pushing;
+use entering::Entering;
 use lent::words::copy_into;
 use matcher::Building;
-use matcher::Entering;
 use matcher::MatchState;
 use typed::SelectorInputs;
 ghost use mathlib.Core.Path.{_≡_};
@@ -134,7 +134,7 @@ pub extern "C" fn bench_enter(
 {
     let parent = MatchState { number, stamp };
     let inputs = SelectorInputs::from_row(row, 0);
-    let entering = matcher::enter::enter_subject(
+    let entering = entering::enter::enter_subject(
         sheet,
         head,
         states,

@@ -9,12 +9,10 @@ use Rattle.lent.specs.Refusals.{told, answered}
 use Rattle.lent.specs.declared.Refusal.{Refusal}
 use Rattle.lent.proofs.Refusals.{number-positive}
 use Rattle.table.specs.Tables.{Table}
-use Rattle.table.specs.Entering.{built, childOf, entered}
-use Rattle.table.specs.Calls.{buildVerdict, enterVerdict}
-use Rattle.matcher.specs.Answers.{Build, Enter}
-use Rattle.matcher.specs.declared.MatchState.{MatchState}
+use Rattle.table.specs.Entering.{built}
+use Rattle.table.specs.Calls.{buildVerdict}
+use Rattle.matcher.specs.Answers.{Build}
 use Rattle.matcher.specs.declared.Building.{Building}
-use Rattle.matcher.specs.declared.Entering.{Entering}
 
 -- ---- of any call
 
@@ -46,22 +44,4 @@ module _ {w : List ℕ} {stamp ranking : ℕ} {t t′ : Table} where
   build-refused-is {r} u =
       let v = buildVerdict w ranking (t .states) (t .cursors) in
       let n = refused v r [] (u .answer) in
-      rw (ne-eqb v 0 n) at (u .memory)
-
--- ---- entering
-
-module _ {w : List ℕ} {t : Table} {number stamp : ℕ} {row : List ℕ} {t′ : Table} where
-  -- where the answer is `Entered`, the verdict is 0, the state is the child, and the memory is the entered one;
-  pub entered-is : {s : MatchState} → Enter w t number stamp row (Entering.Entered s) t′
-      → (enterVerdict w t number stamp row ≡ 0) × (s .number ≡ childOf w t number row) × (s .stamp ≡ stamp) × (t′ ≡ entered w t number row)
-  entered-is {s} u =
-      let z = accepted (enterVerdict w t number stamp row) (s .number ∷ s .stamp ∷ []) _ (u .answer) in
-      let q : 0 ∷ s .number ∷ s .stamp ∷ [] ≡ 0 ∷ childOf w t number row ∷ stamp ∷ [] = rw z at (u .answer) in
-      (z, ap (λ (l : List ℕ). getD l 1 0) q, ap (λ (l : List ℕ). getD l 2 0) q, rw z at (u .memory))
-
-  -- where it is a refusal, no word has changed
-  pub enter-refused-is : {r : Refusal} → Enter w t number stamp row (Entering.Refused r) t′ → t′ ≡ t
-  enter-refused-is {r} u =
-      let v = enterVerdict w t number stamp row in
-      let n = refused v r _ (u .answer) in
       rw (ne-eqb v 0 n) at (u .memory)

@@ -6,9 +6,8 @@ use lib.ListN.{getD}
 use denote.Ref.{RefT}
 use Rattle.lent.proofs.Refusals.{readBack, read-refused}
 use Rattle.table.specs.Tables.{Table}
-use Rattle.matcher.specs.Answers.{buildingTold, enteringTold, listingTold, Build, Enter, Part, Rules}
+use Rattle.matcher.specs.Answers.{buildingTold, listingTold, Build, Part, Rules}
 use Rattle.matcher.specs.declared.Building.{Building}
-use Rattle.matcher.specs.declared.Entering.{Entering}
 use Rattle.matcher.specs.declared.Listing.{Listing}
 
 -- ---- read back
@@ -20,17 +19,6 @@ building-back (Building.Refused r) = read-refused (λ l. Building.Built) Buildin
 
 pub building-distinct : (a b : Building) → buildingTold a ≡ buildingTold b → a ≡ b
 building-distinct a b e = sym (building-back a) ∙ ap (readBack (λ l. Building.Built) Building.Refused) e ∙ building-back b
-
-abbrev enteredFrom : List ℕ → Entering
-enteredFrom l = Entering.Entered (record { number = getD l 0 0; stamp = getD l 1 0 })
-
-entering-back : (r : Entering) → readBack enteredFrom Entering.Refused (enteringTold r) ≡ r
-unfolding readBack
-entering-back (Entering.Entered s) = refl
-entering-back (Entering.Refused r) = read-refused enteredFrom Entering.Refused r
-
-pub entering-distinct : (a b : Entering) → enteringTold a ≡ enteringTold b → a ≡ b
-entering-distinct a b e = sym (entering-back a) ∙ ap (readBack enteredFrom Entering.Refused) e ∙ entering-back b
 
 abbrev partFrom : List ℕ → Listing
 partFrom l = Listing.Part (getD l 0 0) (getD l 1 0)
@@ -48,10 +36,6 @@ listing-distinct a b e = sym (listing-back a) ∙ ap (readBack partFrom Listing.
 pub build-determined : {w : List ℕ} {stamp ranking : ℕ} {t : Table} {r r′ : Building} {u u′ : Table}
     → Build w stamp ranking t r u → Build w stamp ranking t r′ u′ → (r ≡ r′) × (u ≡ u′)
 build-determined {r = r} {r′ = r′} p q = (building-distinct r r′ (p .answer ∙ sym (q .answer)), p .memory ∙ sym (q .memory))
-
-pub enter-determined : {w : List ℕ} {t : Table} {number stamp : ℕ} {row : List ℕ} {r r′ : Entering} {u u′ : Table}
-    → Enter w t number stamp row r u → Enter w t number stamp row r′ u′ → (r ≡ r′) × (u ≡ u′)
-enter-determined {r = r} {r′ = r′} p q = (entering-distinct r r′ (p .answer ∙ sym (q .answer)), p .memory ∙ sym (q .memory))
 
 pub part-determined : {w : List ℕ} {t : Table} {number stamp : ℕ} {r r′ : Listing} → Part w t number stamp r → Part w t number stamp r′ → r ≡ r′
 part-determined {r = r} {r′ = r′} p q = listing-distinct r r′ (p .answer ∙ sym (q .answer))

@@ -1,7 +1,5 @@
 -- The ways out of the calls on a table, and what their answers mean.
 pub mod Listed
 pub mod Builds
-pub mod Entered
-pub mod Fronts
 pub mod Answers
 pub mod Distinct

@@ -1,8 +1,7 @@
-// The matcher over a lent table: build, enter, and the matched rules of a state. `Matcher` of matcher.rs.
+// The matcher over a lent table: build, and the matched rules of a state. `Matcher` of matcher.rs.
 use lent::Refusal;
 
 pub mod build;
-pub mod enter;
 pub mod held;
 pub mod rules;
 pub mod states;
@@ -15,11 +14,6 @@ pub struct MatchState {
 
 pub enum Building {
     Built,
-    Refused(Refusal),
-}
-
-pub enum Entering {
-    Entered(MatchState),
     Refused(Refusal),
 }
 

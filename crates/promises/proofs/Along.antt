@@ -13,10 +13,11 @@ use Rattle.typed.specs.Typed.{inputsTags, inputsRow}
 use Rattle.table.specs.Tables.{Table}
 use Rattle.table.specs.Entering as Memory
 use Rattle.table.specs.Entering.{entered, childOf}
-use Rattle.matcher.specs.Answers.{Build, Enter}
+use Rattle.matcher.specs.Answers.{Build}
 use Rattle.matcher.specs.declared.MatchState.{MatchState}
 use Rattle.matcher.specs.declared.Building.{Building}
-use Rattle.matcher.specs.declared.Entering.{Entering}
+use Rattle.entering.specs.Answers.{Enter}
+use Rattle.entering.specs.declared.Entering.{Entering}
 use Rattle.covered.specs.Covered.{Builds, Enters, Reached, After}
 use Rattle.covered.specs.Covered.Reached.{root, child, later}
 use Rattle.covered.specs.Covered.After.{more}

@@ -23,13 +23,15 @@ use Rattle.table.specs.Tables.{Table, selectorsOf, stampIn, statesIn, transitio
 use Rattle.table.specs.Entering as Memory
 use Rattle.table.specs.Entering.{transitionFits}
 use Rattle.table.specs.Calls.{notAState, stateVerdict}
-use Rattle.matcher.specs.Answers.{Build, Enter, Part, Rules}
+use Rattle.matcher.specs.Answers.{Build, Part, Rules}
 use Rattle.matcher.specs.declared.MatchState.{MatchState}
 use Rattle.matcher.specs.declared.Building.{Building}
-use Rattle.matcher.specs.declared.Entering.{Entering}
 use Rattle.matcher.specs.declared.Listing.{Listing}
-use Rattle.matcher.proofs.Answers.{built-is, build-refused-is, entered-is, enter-refused-is}
-use Rattle.matcher.proofs.Distinct.{entering-distinct, listing-distinct}
+use Rattle.matcher.proofs.Answers.{built-is, build-refused-is}
+use Rattle.matcher.proofs.Distinct.{listing-distinct}
+use Rattle.entering.specs.Answers.{Enter}
+use Rattle.entering.specs.declared.Entering.{Entering}
+use Rattle.entering.proofs.Answers.{entered-is, enter-refused-is, entering-distinct}
 use Rattle.covered.specs.Covered.{Covered, Reached, After, Numbered}
 use Rattle.covered.specs.Covered.Covered.{built, entered}
 use Rattle.covered.specs.Covered.Reached.{root, child, later}

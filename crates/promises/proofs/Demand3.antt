@@ -20,7 +20,8 @@ use Rattle.table.specs.Tables.{Table, selectorsOf, rankingIn}
 use Rattle.table.specs.Entering.{built}
 use Rattle.table.specs.Calls.{stateVerdict}
 use Rattle.matcher.specs.Answers.{Rules}
-use Rattle.matcher.proofs.Answers.{build-refused-is, enter-refused-is}
+use Rattle.matcher.proofs.Answers.{build-refused-is}
+use Rattle.entering.proofs.Answers.{enter-refused-is}
 use Rattle.winners.specs.Winners as winners
 use Rattle.winners.specs.Winners.{Place, style}
 use Rattle.changeset.specs.Sets.{Lists}

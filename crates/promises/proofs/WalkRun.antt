@@ -11,9 +11,10 @@ use Rattle.made.specs.Made.{Made}
 use Rattle.made.proofs.Promises.{made-shaped}
 use Rattle.table.specs.Tables.{Table, selectorsOf, rankingIn, stateAt}
 use Rattle.table.specs.Calls.{stateVerdict}
-use Rattle.matcher.specs.Answers.{Build, Enter}
+use Rattle.matcher.specs.Answers.{Build}
 use Rattle.matcher.specs.declared.Building.{Building}
-use Rattle.matcher.specs.declared.Entering.{Entering}
+use Rattle.entering.specs.Answers.{Enter}
+use Rattle.entering.specs.declared.Entering.{Entering}
 use Rattle.changeset.specs.Sets.{changingTold, Lists}
 use Rattle.changeset.specs.declared.Changing.{Changing}
 use Rattle.cascade.specs.Calls.{winnerIn, changedIn, changedVerdict}

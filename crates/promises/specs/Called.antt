@@ -8,10 +8,11 @@ use Rattle.selector.specs.Tags.{Tags}
 use Rattle.typed.specs.declared.SelectorInputs.{SelectorInputs}
 use Rattle.typed.specs.Typed.{inputsTags, inputsRow}
 use Rattle.table.specs.Tables.{Table}
-use Rattle.matcher.specs.Answers.{Build, Enter}
+use Rattle.matcher.specs.Answers.{Build}
 use Rattle.matcher.specs.declared.MatchState.{MatchState}
 use Rattle.matcher.specs.declared.Building.{Building}
-use Rattle.matcher.specs.declared.Entering.{Entering}
+use Rattle.entering.specs.Answers.{Enter}
+use Rattle.entering.specs.declared.Entering.{Entering}
 
 module _ (w : List ℕ) (ranking : ℕ) where
   -- "a table last built of it and since written only by accepted calls given it, in any order", and of that table "a state reached since from the root by

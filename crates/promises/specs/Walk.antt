@@ -13,7 +13,7 @@ use Rattle.typed.specs.Typed.{tagged}
 use Rattle.style.specs.Entries.{Entry}
 use Rattle.sheet.specs.Sheets
 use Rattle.table.specs.Tables.{Table}
-use Rattle.matcher.specs.declared.Entering.{Entering}
+use Rattle.entering.specs.declared.Entering.{Entering}
 
 -- a subject that has a type alone; a step that asks for it
 abbrev pub typed : ℕ → Tags

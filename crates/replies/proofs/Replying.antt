@@ -25,8 +25,8 @@ use Rattle.table.specs.Tables.{Table, table, stampIn, rankingIn, statesIn, matc
 use Rattle.table.specs.Shape.{tableShape}
 use Rattle.table.specs.Entering.{lacksRoom, childOf, entered}
 use Rattle.table.specs.Calls.{broken, notAState, stateVerdict, enterVerdict}
-use Rattle.matcher.specs.Answers.{Enters}
-use Rattle.matcher.proofs.Entered.{told-at, told-none}
+use Rattle.entering.specs.Answers.{Enters}
+use Rattle.entering.proofs.Entered.{told-at, told-none}
 use Rattle.winners.specs.Winners.{Place}
 use Rattle.winners.specs.Best.{Stands}
 use Rattle.winners.specs.declared.Best.{Best}

@@ -1,10 +1,10 @@
 // The calls on a table.
 use crate::look;
 use crate::tell;
+use entering::enter::enter_subject;
 use lent::words::word;
 use matcher::MatchState;
 use matcher::build::root_state;
-use matcher::enter::enter_subject;
 use matcher::rules::matching_part;
 use matcher::rules::matching_rules;
 use typed::SelectorInputs;

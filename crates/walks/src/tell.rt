@@ -1,13 +1,13 @@
 // What answers say, and the words of the pieces.
 use cursor::NextRule;
 use cursor::step;
+use entering::Entering;
 use items::say;
 use lent::held::part;
 use lent::words::wide;
 use lent::words::word;
 use lines::text;
 use matcher::Building;
-use matcher::Entering;
 use matcher::Listing;
 use matcher::MatchState;
 

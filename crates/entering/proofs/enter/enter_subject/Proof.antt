@@ -1,7 +1,7 @@
 use borrow.Author.Needs.{needs}
-use Rattle.matcher.proofs.Fronts.{front-passed, enter-refused, enter-entered, enter-full}
-use Rattle.matcher.proofs.enter.enter_subject.Statement.{statement}
-use Rattle.matcher.proofs.enter.enter_subject.Tie as tie
+use Rattle.entering.proofs.Fronts.{front-passed, enter-refused, enter-entered, enter-full}
+use Rattle.entering.proofs.enter.enter_subject.Statement.{statement}
+use Rattle.entering.proofs.enter.enter_subject.Tie as tie
 
 row-requires : tie.Need-row-requires
 row-requires c κs = search needs

@@ -1,7 +1,7 @@
 use borrow.Author.Needs.{needs}
-use Rattle.matcher.proofs.Entered.{parents-there, entered-cached, entered-new, entered-none}
-use Rattle.matcher.proofs.held.enter_subject.Statement.{statement}
-use Rattle.matcher.proofs.held.enter_subject.Tie as tie
+use Rattle.entering.proofs.Entered.{parents-there, entered-cached, entered-new, entered-none}
+use Rattle.entering.proofs.held.enter_subject.Statement.{statement}
+use Rattle.entering.proofs.held.enter_subject.Tie as tie
 
 cached-requires : tie.Need-cached-requires
 cached-requires c κs = search needs

@@ -1,9 +1,9 @@
 // Entering a subject under a state.
 use crate::Entering;
-use crate::MatchState;
 use crate::held;
-use crate::states::state_verdict;
 use lent::Refusal;
+use matcher::MatchState;
+use matcher::states::state_verdict;
 use selector::held::row_ascends;
 use selector::held::row_fits;
 use settle::Settled;
@@ -11,7 +11,7 @@ use typed::SelectorInputs;
 ghost use mathlib.Core.Path.{_≡_};
 ghost use Rattle.typed.specs.Typed.{inputsRow};
 ghost use Rattle.table.specs.Tables.{table};
-ghost use Rattle.matcher.specs.Answers.{frontVerdict, Enter};
+ghost use Rattle.entering.specs.Answers.{frontVerdict, Enter};
 
 // 11, 4, 2, 1.
 fn front_verdict(

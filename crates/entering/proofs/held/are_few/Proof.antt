@@ -1,7 +1,7 @@
 use borrow.Author.Needs.{needs}
-use Rattle.matcher.proofs.Entered.{few-not, few-last}
-use Rattle.matcher.proofs.held.are_few.Statement.{statement}
-use Rattle.matcher.proofs.held.are_few.Tie as tie
+use Rattle.entering.proofs.Entered.{few-not, few-last}
+use Rattle.entering.proofs.held.are_few.Statement.{statement}
+use Rattle.entering.proofs.held.are_few.Tie as tie
 
 list-of-requires : tie.Need-list-of-requires
 list-of-requires c κs = search needs

@@ -24,7 +24,7 @@ use Rattle.advance.proofs.Advanced.{advanced-state}
 use Rattle.settle.specs.Settling.{state, Settles}
 use Rattle.settle.specs.declared.Settled.{Settled}
 use Rattle.settle.specs.declared.Settled.the-variants.{At, NoRoom}
-use Rattle.matcher.specs.Answers.{Enters, Parents}
+use Rattle.entering.specs.Answers.{Enters, Parents}
 
 -- ---- what the shape brings
 

@@ -1,7 +1,7 @@
 use borrow.Author.Needs.{needs}
-use Rattle.matcher.proofs.Fronts.{fronts}
-use Rattle.matcher.proofs.enter.front_verdict.Statement.{statement}
-use Rattle.matcher.proofs.enter.front_verdict.Tie as tie
+use Rattle.entering.proofs.Fronts.{fronts}
+use Rattle.entering.proofs.enter.front_verdict.Statement.{statement}
+use Rattle.entering.proofs.enter.front_verdict.Tie as tie
 
 state-verdict-requires : tie.Need-state-verdict-requires
 state-verdict-requires c κs = search needs

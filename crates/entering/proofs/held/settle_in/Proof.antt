@@ -2,9 +2,9 @@ use borrow.Author.Needs.{needs}
 use mathlib.Core.Path.{sym}
 use lib.Seq.{length-take-le}
 use Rattle.table.proofs.Roots.{held-within}
-use Rattle.matcher.proofs.Entered.{rises-read, room-read, settled-next}
-use Rattle.matcher.proofs.held.settle_in.Statement.{statement}
-use Rattle.matcher.proofs.held.settle_in.Tie as tie
+use Rattle.entering.proofs.Entered.{rises-read, room-read, settled-next}
+use Rattle.entering.proofs.held.settle_in.Statement.{statement}
+use Rattle.entering.proofs.held.settle_in.Tie as tie
 
 list-of-requires : tie.Need-list-of-requires
 list-of-requires c κs = search needs

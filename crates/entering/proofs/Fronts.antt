@@ -19,9 +19,9 @@ use Rattle.table.specs.Entering.{lacksRoom, childOf}
 use Rattle.table.specs.Calls.{broken, notAState, stateChecks, subjectChecks, stateVerdict, enterVerdict}
 use Rattle.settle.specs.declared.Settled.{Settled}
 use Rattle.settle.specs.declared.Settled.the-variants.{At, NoRoom}
-use Rattle.matcher.specs.Answers.{Enter, Enters, frontVerdict}
-use Rattle.matcher.specs.declared.Entering.{Entering}
-use Rattle.matcher.proofs.Entered.{told-at, told-none}
+use Rattle.entering.specs.Answers.{Enter, Enters, frontVerdict}
+use Rattle.entering.specs.declared.Entering.{Entering}
+use Rattle.entering.proofs.Entered.{told-at, told-none}
 
 module _ (w : List ℕ) (t : Table) (number stamp : ℕ) where
   -- ---- the first four refusals: of the state, then of the row
