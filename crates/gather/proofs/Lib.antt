@@ -1,9 +1,4 @@
 pub mod Filling
 pub mod Ids
 pub mod Opening
-pub mod Rules
-pub mod Steps
-pub mod Requiring
-pub mod Entries
 pub mod Closing
-pub mod Taking

@@ -12,6 +12,7 @@ use Rattle.gather.specs.declared.Taken.{Taken}
 use Rattle.gather.specs.Opened.{Open, nothing, direct, group, ruleCount, entriesGiven}
 use Rattle.gather.specs.Making.{isGroup}
 use Rattle.gather.specs.Memory.{filledOf, openOf, Sound, Adds}
+use Rattle.gather.proofs.Filling.{steps-few}
 
 -- ---- what is open
 
@@ -69,3 +70,12 @@ module _ (f : Filled) (m : Group) (s : Sound f m) where
 
   pub not-group : (f .kind ≡ 2 → ⊥) → isGroup (openOf f m) ≡ false
   not-group h = kinds (f .kind) (s .kind) (λ e. rw (open-nothing f m e)) (λ e. rw (open-direct f m e)) (λ e. absurd (h e))
+
+-- ---- the open group's steps
+
+module _ (f : Filled) (m : Group) (s : Sound f m) where
+  pub steps-most : f .steps ≤ 2048
+  steps-most = omega (arith, s .rules, steps-few (m .rules) (f .rules) (f .steps) (s .steps) (s .last-steps))
+
+  pub steps-room : 22 * f .steps ≤ length (m .steps)
+  steps-room = omega (arith, s .room .steps, steps-most)

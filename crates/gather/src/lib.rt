@@ -1,4 +1,4 @@
-// Records 2 to 8 gathered into the lists that a push takes, and pushed.
+// What records 2 to 8 are gathered into: the lists that a push takes.
 pub mod held;
 
 // How much of each lent list is filled, and what is open: nothing (0), a direct style (1) or a group (2).

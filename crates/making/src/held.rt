@@ -67,7 +67,7 @@ fn go_on(
     ensures { λ r. ⌜ Took m (now (sheet .entry)) (given (now (rules .entry)) (now (steps .entry)) (now (combinators .entry)) (now (properties .entry)) (now (kinds .entry)) (now (numbers .entry))) item r (now (sheet .exit)) (given (now (rules .exit)) (now (steps .exit)) (now (combinators .exit)) (now (properties .exit)) (now (kinds .exit)) (now (numbers .exit))) ⌝ }
 {
     let filled = m.filled;
-    let taken = gather::held::take(
+    let taken = taking::held::take(
         sheet,
         filled,
         rules,

@@ -23,7 +23,7 @@ use Rattle.house.specs.declared.Walked.{Walked}
 use Rattle.house.specs.House.{walks, outcome, stops, leads, printing, reachedIn, reached}
 use Rattle.house.specs.Memory.{Refused, WalkedSoFar, FedWalk}
 use Rattle.house.specs.Memory.Refused.{whole, unknown}
-use Rattle.walking.specs.Answering.{pastReply, Answers, Steps, answered, refused, Next, Last, Awaits}
+use Rattle.walking.specs.Answering.{PastReply, Answers, Steps, answered, refused, Next, Last, Awaits}
 use Rattle.house.proofs.Walk.{reached-next}
 use Rattle.house.proofs.Front.{rested, frontOf, front-whole, front-unknown, front-cut, none-cut, item-size, item-room}
 use Rattle.walking.proofs.Rows.{ready-after}
@@ -297,32 +297,35 @@ module _ {input : List ℕ} {v : Walked} (r : ℕ) where
 -- ---- the ways through the functions
 
 -- past the reply
-pub reply-ends : (v : Walked) (at offset used : ℕ) (e : Bool) → e ≡ true → record { at = v .at; offset = v .offset; used = used; ends = e } ≡ pastReply v at offset used e
-reply-ends v at offset used e q = rw q
+pub reply-ends : (v : Walked) (size : ℕ) (a : Replied) → a .ends ≡ true → PastReply v size a (record { at = v .at; offset = v .offset; used = a .used; ends = true })
+reply-ends v size a q = record { told = (refl, sym q); stays = λ _. (refl, refl); goes = λ x. absurd (true≢false (sym q ∙ x)); reach = λ x. absurd (true≢false (sym q ∙ x)) }
 
-pub reply-goes : (v : Walked) (at offset used : ℕ) (e : Bool) → e ≡ false → record { at = at; offset = offset; used = used; ends = e } ≡ pastReply v at offset used e
-reply-goes v at offset used e q = rw q
+pub reply-goes : (v : Walked) (size : ℕ) (a : Replied) (off : ℕ)
+    → a .ends ≡ false
+    → (v .offset + size < 18446744073709551616 → off ≡ v .offset + size)
+    → PastReply v size a (record { at = v .at + size; offset = off; used = a .used; ends = false })
+reply-goes v size a off q f = record { told = (refl, sym q); stays = λ x. absurd (true≢false (sym x ∙ q)); goes = λ _. refl; reach = λ _ h. f h }
 
-pub place-fits : (bytes : List ℕ) (item : Record) (size at : ℕ) → item ≡ recordIn bytes → size ≡ sizeOf (item .kind) → isWhole bytes ≡ true → at + length bytes < 18446744073709551616 → Fits w64 (at + size)
-place-fits bytes item size at e z w h = record { fits = item-room bytes item e w size at at z refl h }
+pub place-fits : (bytes : List ℕ) (item : Record) (size at : ℕ) → item ≡ recordIn bytes → size ≡ sizeOf (item .kind) → isWhole bytes ≡ true → at + length bytes < 18446744073709551616 → at + size < 18446744073709551616
+place-fits bytes item size at e z w h = item-room bytes item e w size at at z refl h
 
 pub answers-is : {w : List ℕ} {t : Table} {items : List ℕ} {v : Walked} {out out′ : List ℕ} {t′ : Table} {items′ : List ℕ} {a : Replied} {r : Walked}
     → (bytes : List ℕ) (item : Record)
     → item ≡ recordIn bytes
-    → (size off : ℕ)
+    → (size : ℕ)
     → size ≡ sizeOf (item .kind)
     → Replies (walking w t items) (v .offset) item out (v .used) a out′ t′ items′
-    → (v .offset + size < 18446744073709551616 → off ≡ v .offset + size)
-    → r ≡ pastReply v (v .at + size) off (a .used) (a .ends)
+    → PastReply v size a r
     → Answers bytes w t items v out r out′ t′ items′
-answers-is {v = v} {a = a} bytes item e size off z p f q =
+answers-is {v = v} {a = a} bytes item e size z p q =
     let y = item-size bytes item e size z in
-    rw q (record {
-      replies = rw (← e) (record { line = p .line; table = p .table; items = p .items; ends = p .ends });
-      stays = λ x. (rw x, rw x);
-      goes = λ x. rw (x, y);
-      reach = λ x h. rw (x, ← y) (f (rw y h));
-    })
+    let s = q .told .1 in
+    record {
+      replies = rw (q .told .0, s, ← e) (record { line = p .line; table = p .table; items = p .items; ends = p .ends });
+      stays = λ x. q .stays (sym s ∙ x);
+      goes = λ x. rw (← y) (q .goes (sym s ∙ x));
+      reach = λ x h. rw (← y) (q .reach (sym s ∙ x) (rw y h));
+    }
 
 -- a kind that is known
 pub known-whole : (bytes : List ℕ) (kind : ℕ) (k : Bool) → (known (kindOf bytes) ≡ true → isWhole bytes ≡ true) → kind ≡ kindOf bytes → k ≡ known kind → k ≡ true → isWhole bytes ≡ true

@@ -1,11 +1,12 @@
 -- What is at the front of the rest of a piece, after kind 8, and one step over lent memory. For contracts within and cores alone. Assumes nothing.
 use mathlib.Core.Path.{_≡_}
-use mathlib.Core.Bool.{Bool, cond, true, false}
+use mathlib.Core.Bool.{Bool, true, false}
 use mathlib.Core.List.{List}
 use Prim.Native.Nat.{ℕ, _+_, _≤_, _<_}
 use lib.ListN.{length, drop}
 use Rattle.table.specs.Tables.{Table}
 use Rattle.records.specs.Records.{known, kindOf, sizeOf, isWhole, recordIn}
+use Rattle.replies.specs.declared.Replied.{Replied}
 use Rattle.replies.specs.Lines.{refusedLine, Said}
 use Rattle.replies.specs.Walking.{walking}
 use Rattle.replies.specs.Memory.{Replies}
@@ -13,8 +14,11 @@ use Rattle.house.specs.declared.Walked.{Walked}
 use Rattle.house.specs.Memory.{Cut}
 
 -- after a reply: the place is that after the record, unless it ends the program
-abbrev pub pastReply : Walked → ℕ → ℕ → ℕ → Bool → Walked
-pastReply v at offset used ends = record { at = cond ends (v .at) at; offset = cond ends (v .offset) offset; used = used; ends = ends }
+pub record PastReply (v : Walked) (size : ℕ) (a : Replied) (r : Walked) : Type 0 where
+  pub told : (r .used ≡ a .used) × (r .ends ≡ a .ends)
+  pub stays : a .ends ≡ true → (r .at ≡ v .at) × (r .offset ≡ v .offset)
+  pub goes : a .ends ≡ false → r .at ≡ v .at + size
+  pub reach : a .ends ≡ false → v .offset + size < 18446744073709551616 → r .offset ≡ v .offset + size
 
 -- the reply, and the place
 pub record Answers (bytes w : List ℕ) (t : Table) (items : List ℕ) (v : Walked) (out : List ℕ) (r : Walked) (out′ : List ℕ) (t′ : Table) (items′ : List ℕ) : Type 0 where

@@ -6,6 +6,7 @@ use records::held::is_known;
 use records::held::kind_of;
 use records::held::record_in;
 use records::held::size_of;
+use replies::Replied;
 use replies::held::refuse;
 use replies::held::reply;
 ghost use mathlib.Core.Path.{_≡_};
@@ -16,20 +17,25 @@ ghost use Rattle.table.specs.Tables.{table};
 ghost use Rattle.records.specs.Records.{known, kindOf, isWhole};
 ghost use Rattle.replies.specs.Memory.{Ready, Room};
 ghost use Rattle.house.specs.Memory.{FedWalk};
-ghost use Rattle.walking.specs.Answering.{pastReply, Answers, Steps, Awaits};
+ghost use Rattle.walking.specs.Answering.{PastReply, Answers, Steps, Awaits};
 
 // After a reply: past the record, unless it ends the program.
-fn past_reply(w: Walked, at: usize, offset: u64, used: usize, ends: bool) -> Walked
-    ensures { λ r. ⌜ r ≡ pastReply w at offset used ends ⌝ }
+fn past_reply(w: Walked, size: usize, answer: Replied) -> Walked
+    requires { ⌜ w .at + size < 18446744073709551616 ⌝ }
+    ensures { λ r. ⌜ PastReply w size answer r ⌝ }
 {
-    if ends {
-        return Walked { used, ends, ..w };
+    if answer.ends {
+        return Walked {
+            used: answer.used,
+            ends: true,
+            ..w
+        };
     }
     Walked {
-        at,
-        offset,
-        used,
-        ends,
+        at: w.at + size,
+        offset: further(w.offset, size),
+        used: answer.used,
+        ends: false,
     }
 }
 
@@ -50,9 +56,6 @@ fn answer_front(
     ensures { λ r. ⌜ Answers (now (rest .entry)) (now (sheet .entry)) (table (now (head .entry)) (now (states .entry)) (now (cursors .entry)) (now (matched .entry)) (now (transitions .entry))) (now (items .entry)) w (now (out .entry)) r (now (out .exit)) (table (now (head .exit)) (now (states .exit)) (now (cursors .exit)) (now (matched .exit)) (now (transitions .exit))) (now (items .exit)) ⌝ }
 {
     let item = record_in(rest);
-    let size = size_of(item.kind);
-    let at = w.at + size;
-    let offset = further(w.offset, size);
     let answer = reply(
         sheet,
         head,
@@ -66,7 +69,7 @@ fn answer_front(
         w.used,
         w.offset,
     );
-    past_reply(w, at, offset, answer.used, answer.ends)
+    past_reply(w, size_of(item.kind), answer)
 }
 
 // Whether there is something to take: not only the beginning of a record, and room for a line more.

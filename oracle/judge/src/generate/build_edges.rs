@@ -784,13 +784,31 @@ fn pair(before: Vec<Item>, bad: Stores, good: Stores) -> BuildCase {
         let stores = stores.into_iter();
         stores.map(|(address, value)| store(0, address, value))
     };
+    let large = before.iter().map(|item| item.payload.len()).sum::<usize>() > 4_000;
     let mut items = before;
     items.extend(stored(bad));
     items.extend(every_call(0));
     items.push(cascade(1));
     items.extend(stored(good));
-    items.extend([read(0), cascade(1), read(1), style(0, 6, 1), read(0)]);
+    items.extend([read(0), cascade(1)]);
+    items.extend(asked(1, large));
+    items.push(style(0, 6, 1));
+    items.extend(asked(0, large));
     case(items)
+}
+
+/// The whole sheet; of a large one, whose every line costs a test of all its
+/// words, the rules and entries at some places.
+fn asked(which: u32, large: bool) -> Vec<Item> {
+    if !large {
+        return vec![read(which)];
+    }
+    let places = [0, 1, 31, 63, 64, 127, 128, 255, 256];
+    let rules = places.iter().map(|&number| read_rule(which, number, 0));
+    let entries = places
+        .iter()
+        .flat_map(|&number| [look(which, 0, number, 3), look(which, 1, number, 31)]);
+    rules.chain(entries).collect()
 }
 
 /// For each clause of row 11, memory that breaks it and, where it can be, no
