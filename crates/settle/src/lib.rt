@@ -1,4 +1,4 @@
-// Putting a state into a table, or finding the equal one, and keeping a transition.
+// Putting a state into a table, or finding the equal one.
 pub mod held;
 
 // Where a state stands.

@@ -1,7 +1,7 @@
 use borrow.Author.Needs.{needs}
-use Rattle.settle.proofs.Linking.{number-left, link-same, not-kept, is-kept, is-kept-last}
-use Rattle.settle.proofs.held.keep.Statement.{statement}
-use Rattle.settle.proofs.held.keep.Tie as tie
+use Rattle.linking.proofs.Linking.{number-left, link-same, not-kept, is-kept, is-kept-last}
+use Rattle.linking.proofs.held.keep.Statement.{statement}
+use Rattle.linking.proofs.held.keep.Tie as tie
 
 word-requires : tie.Need-word-requires
 word-requires c κs = search needs

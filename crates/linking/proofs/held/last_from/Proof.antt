@@ -1,7 +1,7 @@
 use borrow.Author.Needs.{needs}
-use Rattle.settle.proofs.Linking.{Following, count-some, follow-start, follow-here, follow-next, follow-end}
-use Rattle.settle.proofs.held.last_from.Statement.{statement}
-use Rattle.settle.proofs.held.last_from.Tie as tie
+use Rattle.linking.proofs.Linking.{Following, count-some, follow-start, follow-here, follow-next, follow-end}
+use Rattle.linking.proofs.held.last_from.Statement.{statement}
+use Rattle.linking.proofs.held.last_from.Tie as tie
 
 abbrev Inv-loop : tie.InvT-loop
 Inv-loop transitions count first links link₀ left₀ link left = Following transitions count first link left

@@ -1,7 +1,7 @@
 use borrow.Author.Needs.{needs}
-use Rattle.settle.proofs.Linking.{row-put}
-use Rattle.settle.proofs.held.put_row.Statement.{statement}
-use Rattle.settle.proofs.held.put_row.Tie as tie
+use Rattle.linking.proofs.Linking.{row-put}
+use Rattle.linking.proofs.held.put_row.Statement.{statement}
+use Rattle.linking.proofs.held.put_row.Tie as tie
 
 address-requires : tie.Need-address-requires
 address-requires c κs = search needs

@@ -1,9 +1,9 @@
 use native.Mathlib.Omega.{arith}
 use borrow.Author.Needs.{needs}
 use Rattle.lent.proofs.Pool.{stride-fits}
-use Rattle.settle.proofs.Linking.{no-number, fits-here}
-use Rattle.settle.proofs.held.transition_fits.Statement.{statement}
-use Rattle.settle.proofs.held.transition_fits.Tie as tie
+use Rattle.linking.proofs.Linking.{no-number, fits-here}
+use Rattle.linking.proofs.held.transition_fits.Statement.{statement}
+use Rattle.linking.proofs.held.transition_fits.Tie as tie
 
 returns : tie.Need-returns
 returns c = search (no-number, needs)

@@ -1,0 +1,2 @@
+// Keeping a transition, in its parent's chain.
+pub mod held;
