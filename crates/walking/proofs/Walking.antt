@@ -7,8 +7,6 @@ use native.Mathlib.Omega.{arith}
 use lib.ListN.{length, take, drop, length-append, length-drop}
 use lib.Seq.{sets-eq, length-sets, length-take-le, take-at, drop-at, drop-drop}
 use lib.Dec.{eqb}
-use mir.Syntax.{w64}
-use mir.Val.{Fits}
 use borrow.Author.Tests.{eqb-true, eqb-false}
 use Rattle.lent.proofs.Pool.{rest-all}
 use Rattle.table.specs.Tables.{Table}

@@ -7,8 +7,14 @@ use Rattle.walking.proofs.held.past_reply.Tie as tie
 returns : tie.Need-returns
 returns c = search (reply-ends, needs)
 
+add-t4 : tie.Need-add-t4
+add-t4 c = search needs
+
+further-requires : tie.Need-further-requires
+further-requires c κs = search needs
+
 returns-2 : tie.Need-returns-2
 returns-2 c = search (reply-goes, needs)
 
 pub past-reply-spec : {M : Type 1} → statement M
-past-reply-spec = tie.close (tie.spec returns returns-2)
+past-reply-spec = tie.close (tie.spec returns add-t4 further-requires returns-2)
