@@ -19,7 +19,7 @@ use Rattle.lent.proofs.Refusals.{first-clear}
 use Rattle.selector.specs.Tags.{Tags, asSets}
 use Rattle.selector.specs.Rows.{rowAt, stepAt, combBefore, selectorOf}
 use Rattle.selector.proofs.Saturation.{Unsaturated}
-use Rattle.typed.specs.Typed.{stepTags}
+use Rattle.steps.specs.Steps.{stepTags}
 use Rattle.sheet.specs.Layout
 use Rattle.sheet.specs.Sheets.{Style, Rule, Source, sourcesOf, keyOf, countsFor, ruleAt, styleAt, sheetOf}
 use Rattle.sheet.specs.Shape.{sheetShape}

@@ -37,8 +37,8 @@ use Rattle.selector.proofs.Distinct.{matching-distinct, diagnosis-distinct}
 use Rattle.matching.proofs.Fitting.{matching-places}
 use Rattle.matching.proofs.Promises.{answers-agree}
 use Rattle.selector.proofs.Saturation.{never-saturates}
-use Rattle.typed.specs.declared.SelectorStep.{SelectorStep}
-use Rattle.typed.specs.Typed.{stepTags, stepWeighing}
+use Rattle.steps.specs.declared.SelectorStep.{SelectorStep}
+use Rattle.steps.specs.Steps.{stepTags, stepWeighing}
 use Rattle.sheet.specs.Sheets.{ruleAt, countsFor}
 use Rattle.weighed.specs.Weighing.{weightFrom}
 use Rattle.weighed.proofs.Saturation.{rule-never-saturates}

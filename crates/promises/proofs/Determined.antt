@@ -14,13 +14,14 @@ use Rattle.selector.specs.Diagnosing.{diagnosisTold, diagnosisOf}
 use Rattle.selector.specs.Weighing.{weighingTold, weighingOf, weightTold}
 use Rattle.selector.proofs.Distinct.{matching-distinct, diagnosis-distinct, weighing-distinct}
 use Rattle.typed.specs.declared.SelectorInputs.{SelectorInputs}
-use Rattle.typed.specs.declared.SelectorStep.{SelectorStep}
 use Rattle.typed.specs.declared.TypeChoice.{TypeChoice}
 use Rattle.typed.specs.declared.PartChoice.{PartChoice}
 use Rattle.typed.specs.declared.ClassId.{ClassId}
 use Rattle.typed.specs.declared.PseudoClassId.{PseudoClassId}
-use Rattle.typed.specs.Typed.{Owned, stepMatching, stepWeighing, inputsRow}
+use Rattle.typed.specs.Typed.{Owned, inputsRow}
 use Rattle.typed.proofs.Distinct.{owned-distinct}
+use Rattle.steps.specs.declared.SelectorStep.{SelectorStep}
+use Rattle.steps.specs.Steps.{stepMatching, stepWeighing}
 use Rattle.style.specs.Looking.{lengthTold, containingTold, positionTold, kindTold, plainTold, resourceTold, styleAnswer, containingOf, positionOf, kindOf, plainOf, resourceOf, found, Ids}
 use Rattle.style.proofs.Distinct.{length-distinct, containing-distinct, position-distinct, kind-distinct, plain-distinct, resource-distinct, ids-determined}
 use Rattle.sheet.specs.Layout.{rulesIn, stylesIn}
@@ -62,7 +63,7 @@ use Rattle.promises.specs.Determined.{Determined, DeterminedPart}
 module _ {A : Type 0} where
   -- a contract that says what the answer, or the memory at exit, is. These calls have no other: `lent::Refusal`'s; those of `lent::words` and `lent::sets`;
   -- `lent::lists::address`, `cell`, `start_of`; `PropertyId::index`, `compare`; the constructors, `row` and `from_row` of `SelectorInputs` and `SelectorStep`;
-  -- those of `sheet::shape`, `table::shape`, `admit::sources`, `admit::cascades` and `matcher::states`; `root_state`; `cursor::index_after`;
+  -- those of `TypeChoice` and `PartChoice`; those of `sheet::shape`, `table::shape`, `admit::sources`, `admit::cascades` and `matcher::states`; `root_state`; `cursor::index_after`;
   -- `CascadeEntryKey::compare`; `ChannelSet::contains`, `is_empty`, `len`.
   pub said-determined : (x : A) → Determined (λ r. r ≡ x)
   said-determined x a b p q = p ∙ sym q
@@ -92,7 +93,7 @@ module _ (steps : List ℕ) (n : ℕ) (combinators : List ℕ) (c : ℕ) where
   pub specificity-determined : (ranking : ℕ) → Determined (λ r. weighingTold r ≡ weighingOf ranking steps n combinators c)
   specificity-determined ranking = told-determined weighing-distinct (weighingOf ranking steps n combinators c)
 
--- ---- typed: `SelectorInputsOwned::new` (no part), `with_part`; `SelectorStep::matches`; `specificity`, `level3_specificity`
+-- ---- typed: `SelectorInputsOwned::new` (no part), `with_part`; steps: `SelectorStep::matches`; `specificity`, `level3_specificity`
 
 pub owned-determined : (t : TypeChoice) (p : PartChoice) (classes : List ClassId) (n : ℕ) (pseudos : List PseudoClassId) (m : ℕ) → Determined (Owned t p classes n pseudos m)
 owned-determined t p classes n pseudos m a b h k = let (e, f) = owned-distinct a b h k in λ i. record { verdict = e i; inputs = f i }

@@ -18,7 +18,8 @@ use Rattle.selector.specs.Checks.{selectorOver, pathOver, codesOver, subjectsOf
 use Rattle.selector.specs.Diagnosing.{someFit, otherErrors, lastOr, tried, judge, diagnose, diagnosisOf}
 use Rattle.selector.specs.Weighing.{countsOf}
 use Rattle.typed.specs.declared.SelectorInputs.{SelectorInputs}
-use Rattle.typed.specs.Typed.{inputsTags, stepTags, stepVerdict, stepMatching}
+use Rattle.typed.specs.Typed.{inputsTags}
+use Rattle.steps.specs.Steps.{stepTags, stepVerdict, stepMatching}
 use Rattle.style.specs.Checks.{entriesOver, kindsOver, propertiesOff}
 use Rattle.style.specs.Entries.{entriesOf}
 use Rattle.sheet.specs.Layout

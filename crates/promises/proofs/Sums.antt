@@ -22,8 +22,9 @@ use Rattle.selector.specs.Tags.{asSets}
 use Rattle.selector.specs.declared.Weighing.the-variants.{Weighs}
 use Rattle.selector.specs.Weighing.{isSet, countsOf, Summed, weighingTold, weightTold}
 use Rattle.selector.proofs.Saturation.{Unsaturated}
-use Rattle.typed.specs.declared.SelectorStep.{SelectorStep}
-use Rattle.typed.specs.Typed.{typeOf, partOf, stepTags, classNumber, pseudoNumber, over}
+use Rattle.typed.specs.Typed.{typeOf, partOf, classNumber, pseudoNumber, over}
+use Rattle.steps.specs.declared.SelectorStep.{SelectorStep}
+use Rattle.steps.specs.Steps.{stepTags}
 use Rattle.sheet.specs.Layout.{rulesIn}
 use Rattle.sheet.specs.Shape.{sheetShape}
 use Rattle.weighed.specs.Weighing.{weightFrom}

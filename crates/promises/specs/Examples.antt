@@ -11,8 +11,9 @@ use Rattle.typed.specs.declared.ClassId.{ClassId}
 use Rattle.typed.specs.declared.TypeChoice.{TypeChoice}
 use Rattle.typed.specs.declared.PartChoice.{PartChoice}
 use Rattle.typed.specs.declared.SelectorInputs.{SelectorInputs}
-use Rattle.typed.specs.declared.SelectorStep.{SelectorStep}
-use Rattle.typed.specs.Typed.{noPseudos, inputsOf, asking, askingClass, inputsRow, stepRow, stepMatching}
+use Rattle.typed.specs.Typed.{noPseudos, inputsOf, inputsRow}
+use Rattle.steps.specs.declared.SelectorStep.{SelectorStep}
+use Rattle.steps.specs.Steps.{asking, askingClass, stepRow, stepMatching}
 use Rattle.sheet.specs.Layout.{SHEET-WORDS}
 use Rattle.sheet.specs.Laying.{emptied}
 use Rattle.given.specs.Given.{Group, given}

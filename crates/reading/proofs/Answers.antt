@@ -20,10 +20,10 @@ use Rattle.lent.specs.declared.Refusal.the-variants.{BrokenShape, CodeOutOfRang
 use Rattle.lent.proofs.Refusals.{first-stop, first-go, first-clear}
 use Rattle.selector.specs.Weighing.{weightTold}
 use Rattle.selector.specs.declared.Specificity.{Specificity}
-use Rattle.typed.specs.Typed.{asking, stepFrom}
-use Rattle.typed.specs.declared.SelectorStep.{SelectorStep}
 use Rattle.typed.specs.declared.TypeChoice.{TypeChoice}
 use Rattle.typed.specs.declared.PartChoice.{PartChoice}
+use Rattle.steps.specs.declared.SelectorStep.{SelectorStep}
+use Rattle.steps.specs.Steps.{asking, stepFrom}
 use Rattle.sheet.specs.Layout
 use Rattle.sheet.specs.Layout.{rulesIn, stepsIn, entriesIn, stylesIn, styleEntriesIn, stepPlace}
 use Rattle.sheet.specs.Sheets.{partAt, entryAt, ruleAt, styleAt, sheetOf, countsFor, weightFor, ruleStepEnds, ruleEntryEnds, styleEntryEnds}

@@ -15,9 +15,10 @@ use Rattle.theory.proofs.Spreads.{getElem?-spread, getD-spread, spread-same, sp
 use Rattle.lent.specs.Pool.{startOf}
 use Rattle.selector.specs.Tags.{Tags}
 use Rattle.selector.specs.Rows.{rowAt, wordsFrom}
-use Rattle.typed.specs.Typed.{typeOf, typeFrom, partOf, partFrom, stepTags, stepFrom}
+use Rattle.typed.specs.Typed.{typeOf, typeFrom, partOf, partFrom}
 use Rattle.typed.specs.declared.ClassId.{ClassId}
 use Rattle.typed.specs.declared.PseudoClassId.{PseudoClassId}
+use Rattle.steps.specs.Steps.{stepTags, stepFrom}
 use Rattle.sheet.specs.Layout.{rulesIn, stepsIn, stylesIn, stepPlace}
 use Rattle.sheet.specs.Sheets.{partAt, ruleAt, styleAt, sheetOf, ruleStepEnds}
 use Rattle.sheet.specs.Shape.{sheetShape}

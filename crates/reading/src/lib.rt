@@ -1,6 +1,6 @@
 // What is read out of a lent sheet. `StyleCascade` and `MatchRule` of matcher.rs.
 use lent::Refusal;
-use typed::SelectorStep;
+use steps::SelectorStep;
 
 pub mod read;
 

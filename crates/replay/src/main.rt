@@ -8,9 +8,9 @@ ghost use lib.ListN.{length};
 // A longer body is answered `long`.
 const LONGEST: usize = 4096;
 
+mod one_step;
 mod say;
 mod sets;
-mod steps;
 
 fn answer(kind: u32, body: &[u32], out: &mut [u8], used: usize) -> usize
     requires { ⌜ length (now body) ≤ 4096 ⌝ }
@@ -22,7 +22,7 @@ fn answer(kind: u32, body: &[u32], out: &mut [u8], used: usize) -> usize
         4 => sets::ascending(body, out, used),
         5 => sets::compares(body, out, used),
         6 => sets::properties(body, out, used),
-        _ => steps::step(body, out, used),
+        _ => one_step::step(body, out, used),
     }
 }
 

@@ -1,4 +1,4 @@
--- Laws of subjects and steps by value, over the size of their arrays. Assumes nothing.
+-- Laws of subjects by value, and of rows, over the size of their arrays. Assumes nothing.
 use mathlib.Core.Path.{_≡_, refl, sym, ap, _∙_}
 use mathlib.Core.Option.{Option, none, some}
 use mathlib.Core.List.{List, [], _∷_}
@@ -23,12 +23,11 @@ use Rattle.typed.specs.declared.PartChoice.{PartChoice}
 use Rattle.typed.specs.declared.SelectorInputs.{SelectorInputs}
 use Rattle.typed.specs.declared.Verdict.the-variants.{Accepted, Refused}
 use Rattle.typed.specs.declared.SelectorInputsOwned.{SelectorInputsOwned}
-use Rattle.typed.specs.declared.SelectorStep.{SelectorStep}
 use Rattle.selector.proofs.RowLaws.{words-few}
 use Rattle.selector.specs.Rows.{tagOf, tagNumber, wordsFrom, rowAt}
 use Rattle.selector.specs.Weighing.{isSet}
-use Rattle.typed.specs.Typed.{typeOf, partOf, classNumber, pseudoNumber, inputsTags, stepTags, inputsOf, tagged}
-use Rattle.typed.specs.Typed.{rowWith, rowOf, inputsRow, stepRow, rowType, rowPart, inputsWith, stepWith, inputsFrom, stepFrom}
+use Rattle.typed.specs.Typed.{typeOf, partOf, classNumber, pseudoNumber, inputsTags, inputsOf, tagged}
+use Rattle.typed.specs.Typed.{rowWith, rowOf, inputsRow, rowType, rowPart, inputsWith, inputsFrom}
 use Rattle.typed.specs.Typed.{ownedVerdict, idsRow, ownedInputs, Owned}
 
 -- ---- a list spelled out place by place
@@ -73,7 +72,7 @@ module _ (size tf t pf p n m : ℕ) (class pseudo : ℕ → ℕ) where
   row-pseudos k h = ap (take k) (sym (drop-drop size 6 _) ∙ drop-at (spread class 0 size) (spread pseudo 0 size) size (length-spread class 0 size)) ∙ take-spread pseudo 0 k size h
 
 -- what a row says is what was written
-row-tags : (size n m : ℕ) (t p : Option ℕ) (class pseudo : ℕ → ℕ) → n ≤ size → m ≤ size
+pub row-tags : (size n m : ℕ) (t p : Option ℕ) (class pseudo : ℕ → ℕ) → n ≤ size → m ≤ size
     → rowAt size (rowOf size t p n m class pseudo) 0 ≡ record { type = t; part = p; classes = spread class 0 n; pseudos = spread pseudo 0 m }
 unfolding rowAt
 row-tags size n m t p class pseudo h g =
@@ -83,18 +82,10 @@ pub inputs-row : (x : SelectorInputs) → x .«class_count» ≤ 16 → x .«pse
 unfolding inputsTags
 inputs-row x h g = row-tags 16 (x .«class_count») (x .«pseudo_count») (typeOf (x .«type_tag»)) (partOf (x .«part_tag»)) (classNumber (x .classes)) (pseudoNumber (x .pseudos)) h g
 
-pub step-row : (s : SelectorStep) → s .«class_count» ≤ 8 → s .«pseudo_count» ≤ 8 → rowAt 8 (stepRow s) 0 ≡ stepTags s
-unfolding stepTags
-step-row s h g = row-tags 8 (s .«class_count») (s .«pseudo_count») (typeOf (s .«type_tag»)) (partOf (s .«part_tag»)) (classNumber (s .«required_classes»)) (pseudoNumber (s .«required_pseudos»)) h g
-
 -- a row read back, word by word
 pub inputs-read : (row w : List ℕ) (t : TypeChoice) (p : PartChoice) (x : SelectorInputs)
     → w ≡ spread (λ k. getD row k 0) 0 38 → t ≡ rowType w → p ≡ rowPart w → x ≡ inputsWith t p w → x ≡ inputsFrom row
 inputs-read row w t p x e f g h = h ∙ rw (f, g, e)
-
-pub step-read : (row w : List ℕ) (t : TypeChoice) (p : PartChoice) (s : SelectorStep)
-    → w ≡ spread (λ k. getD row k 0) 0 22 → t ≡ rowType w → p ≡ rowPart w → s ≡ stepWith t p w → s ≡ stepFrom row
-step-read row w t p s e f g h = h ∙ rw (f, g, e)
 
 -- ---- an owned subject
 

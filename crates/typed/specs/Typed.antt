@@ -1,31 +1,25 @@
--- Subjects and steps by value, with typed numbers, and the rows that they are written to and read from: 01, "Subjects and steps".
+-- Subjects by value, with typed numbers, and the rows that they are written to and read from: 01, "Subjects and steps".
 -- Assumes nothing.
 use mathlib.Core.Path.{_≡_, refl}
-use mathlib.Core.Bool.{Bool, cond, _||_, not}
+use mathlib.Core.Bool.{Bool, cond, _||_}
 use mathlib.Core.Option.{Option, none, some}
 use mathlib.Core.List.{List, [], _∷_, _++_}
-use Prim.Native.Nat.{ℕ, _+_}
-use lib.ListN.{length, getD, set, replicate}
+use Prim.Native.Nat.{ℕ}
+use lib.ListN.{length, getD, replicate}
 use lib.Dec.{ltb, eqb}
 use Rattle.theory.specs.Lists.{sort, spread}
-use Rattle.theory.specs.Weight.{weightOf}
 use Rattle.lent.specs.Refusals.{told, check, firstOf, answered}
-use Rattle.typed.specs.declared.TypeTag.{TypeTag}
-use Rattle.typed.specs.declared.PartTag.{PartTag}
 use Rattle.typed.specs.declared.ClassId.{ClassId}
 use Rattle.typed.specs.declared.PseudoClassId.{PseudoClassId}
 use Rattle.typed.specs.declared.TypeChoice.{TypeChoice}
 use Rattle.typed.specs.declared.PartChoice.{PartChoice}
 use Rattle.typed.specs.declared.SelectorInputs.{SelectorInputs}
 use Rattle.typed.specs.declared.SelectorInputsOwned.{SelectorInputsOwned}
-use Rattle.typed.specs.declared.SelectorStep.{SelectorStep}
 use Rattle.typed.specs.declared.Verdict.{Verdict}
 use Rattle.typed.specs.declared.Verdict.the-variants.{Accepted, Refused}
-use Rattle.selector.specs.Tags.{Tags, asSets, stepMatches}
+use Rattle.selector.specs.Tags.{Tags}
 use Rattle.selector.specs.Rows.{tagOf, tagNumber}
-use Rattle.selector.specs.Checks.{tagsAscend}
-use Rattle.selector.specs.Matching.{matchingTold, yesNo}
-use Rattle.selector.specs.Weighing.{isSet, countsOf, weightTold}
+use Rattle.selector.specs.Weighing.{isSet}
 
 -- ---- tags and ids as numbers
 
@@ -57,10 +51,6 @@ tagsOf t p classes n pseudos m = record {
 unfoldable pub inputsTags : SelectorInputs → Tags
 inputsTags x = tagsOf (x .«type_tag») (x .«part_tag») (x .classes) (x .«class_count») (x .pseudos) (x .«pseudo_count»)
 
--- What a step asks for, as given
-unfoldable pub stepTags : SelectorStep → Tags
-stepTags s = tagsOf (s .«type_tag») (s .«part_tag») (s .«required_classes») (s .«class_count») (s .«required_pseudos») (s .«pseudo_count»)
-
 -- ---- what is made
 
 abbrev pub noClasses : ℕ → List ClassId
@@ -87,41 +77,6 @@ empty-has-nothing : inputsTags (tagged TypeChoice.Unset PartChoice.Unset) ≡ re
 unfolding inputsTags
 empty-has-nothing = refl
 
-abbrev pub stepOf : TypeChoice → PartChoice → List ClassId → ℕ → List PseudoClassId → ℕ → SelectorStep
-stepOf t p classes n pseudos m = record {
-  «type_tag» = t;
-  «part_tag» = p;
-  «required_classes» = classes;
-  «class_count» = n;
-  «required_pseudos» = pseudos;
-  «pseudo_count» = m;
-}
-
--- a step that asks for tags alone
-abbrev pub asking : TypeChoice → PartChoice → SelectorStep
-asking t p = stepOf t p (noClasses 8) 0 (noPseudos 8) 0
-
-abbrev pub askingType : SelectorStep → TypeTag → SelectorStep
-askingType s t = stepOf (TypeChoice.Set t) (s .«part_tag») (s .«required_classes») (s .«class_count») (s .«required_pseudos») (s .«pseudo_count»)
-
-abbrev pub askingPart : SelectorStep → PartTag → SelectorStep
-askingPart s p = stepOf (s .«type_tag») (PartChoice.Set p) (s .«required_classes») (s .«class_count») (s .«required_pseudos») (s .«pseudo_count»)
-
--- One id more, after n. There is room for 8: the count of a ninth is 9 and stays, so that the step is refused wherever it is used
-abbrev pub added : {A : Type 0} → List A → ℕ → A → List A
-added ids n id = cond (ltb n 8) (set ids n id) ids
-
-abbrev pub raised : ℕ → ℕ
-raised n = cond (ltb n 8) (n + 1) 9
-
-abbrev pub askingClass : SelectorStep → ClassId → SelectorStep
-askingClass s c =
-    stepOf (s .«type_tag») (s .«part_tag») (added (s .«required_classes») (s .«class_count») c) (raised (s .«class_count»)) (s .«required_pseudos») (s .«pseudo_count»)
-
-abbrev pub askingPseudo : SelectorStep → PseudoClassId → SelectorStep
-askingPseudo s c =
-    stepOf (s .«type_tag») (s .«part_tag») (s .«required_classes») (s .«class_count») (added (s .«required_pseudos») (s .«pseudo_count») c) (raised (s .«pseudo_count»))
-
 -- ---- rows
 
 -- A row: type flag, type, part flag, part, class count, pseudo count, then `size` classes and `size` pseudos
@@ -135,10 +90,6 @@ rowOf size t p = rowWith size (isSet t) (tagNumber t) (isSet p) (tagNumber p)
 abbrev pub inputsRow : SelectorInputs → List ℕ
 inputsRow x =
     rowOf 16 (typeOf (x .«type_tag»)) (partOf (x .«part_tag»)) (x .«class_count») (x .«pseudo_count») (classNumber (x .classes)) (pseudoNumber (x .pseudos))
-
-abbrev pub stepRow : SelectorStep → List ℕ
-stepRow s =
-    rowOf 8 (typeOf (s .«type_tag»)) (partOf (s .«part_tag»)) (s .«class_count») (s .«pseudo_count») (classNumber (s .«required_classes»)) (pseudoNumber (s .«required_pseudos»))
 
 -- A subject row without tags, of two lists of ids, 0 past them
 abbrev pub idsRow : List ℕ → List ℕ → List ℕ
@@ -163,9 +114,6 @@ pseudosFrom size words at = spread (λ k. record { 0 = getD words k 0 }) at size
 abbrev pub inputsWith : TypeChoice → PartChoice → List ℕ → SelectorInputs
 inputsWith t p row = inputsOf t p (classesFrom 16 row 6) (getD row 4 0) (pseudosFrom 16 row 22) (getD row 5 0)
 
-abbrev pub stepWith : TypeChoice → PartChoice → List ℕ → SelectorStep
-stepWith t p row = stepOf t p (classesFrom 8 row 6) (getD row 4 0) (pseudosFrom 8 row 14) (getD row 5 0)
-
 abbrev pub rowType : List ℕ → TypeChoice
 rowType row = typeFrom (tagOf (getD row 0 0) (getD row 1 0))
 
@@ -174,9 +122,6 @@ rowPart row = partFrom (tagOf (getD row 2 0) (getD row 3 0))
 
 abbrev pub inputsFrom : List ℕ → SelectorInputs
 inputsFrom row = inputsWith (rowType row) (rowPart row) row
-
-abbrev pub stepFrom : List ℕ → SelectorStep
-stepFrom row = stepWith (rowType row) (rowPart row) row
 
 -- ---- answers and refusals
 
@@ -208,17 +153,3 @@ ownedInputs t p classes n pseudos m =
 pub record Owned (t : TypeChoice) (p : PartChoice) (classes : List ClassId) (n : ℕ) (pseudos : List PseudoClassId) (m : ℕ) (r : SelectorInputsOwned) : Type 0 where
   pub verdict : verdictTold (r .verdict) ≡ answered (ownedVerdict n m) (0 ∷ [])
   pub inputs : r .inputs ≡ ownedInputs t p classes n pseudos m
-
--- Matching a step: 2 (step, then subject), 1
-unfoldable pub stepVerdict : SelectorStep → SelectorInputs → ℕ
-stepVerdict s x =
-    firstOf (check 2 (over 8 (s .«class_count») (s .«pseudo_count»)) ∷ check 2 (over 16 (x .«class_count») (x .«pseudo_count»)) ∷ check 1 (not (tagsAscend (inputsTags x))) ∷ [])
-
--- "A step's required ids may come in any order and repeated; they are sorted and made unique"
-unfoldable pub stepMatching : SelectorStep → SelectorInputs → List ℕ
-stepMatching s x = answered (stepVerdict s x) (matchingTold (yesNo (stepMatches (asSets (stepTags s)) (inputsTags x))))
-
--- Weighing a step: 2
-unfoldable pub stepWeighing : ℕ → SelectorStep → List ℕ
-stepWeighing ranking s =
-    answered (firstOf (check 2 (over 8 (s .«class_count») (s .«pseudo_count»)) ∷ [])) (weightTold (weightOf ranking (countsOf (asSets (stepTags s)) ∷ [])))

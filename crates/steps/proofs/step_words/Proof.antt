@@ -1,7 +1,7 @@
 use borrow.Author.Needs.{needs}
 use Rattle.typed.proofs.Laws.{copied}
-use Rattle.typed.proofs.step_words.Statement.{statement}
-use Rattle.typed.proofs.step_words.Tie as tie
+use Rattle.steps.proofs.step_words.Statement.{statement}
+use Rattle.steps.proofs.step_words.Tie as tie
 
 slice-aggregate-copy-into : tie.Need-slice-aggregate-copy-into
 slice-aggregate-copy-into c = search needs

@@ -10,14 +10,16 @@ use Rattle.theory.proofs.Lists.{and-left, and-right}
 use Rattle.theory.specs.Weight.{total}
 use Rattle.lent.specs.Refusals.{firstOf}
 use Rattle.selector.specs.declared.Specificity.{Specificity}
-use Rattle.typed.specs.declared.SelectorInputs.{SelectorInputs}
-use Rattle.typed.specs.declared.SelectorStep.{SelectorStep}
 use Rattle.selector.specs.Tags.{asSets, stepMatches}
 use Rattle.selector.specs.Rows.{rowAt}
 use Rattle.selector.specs.Checks.{rowFits, tagsAscend}
 use Rattle.selector.specs.Weighing.{Counted}
-use Rattle.typed.specs.Typed.{inputsTags, stepTags, inputsRow, stepRow, over, stepVerdict, stepMatching, stepWeighing}
-use Rattle.typed.proofs.Laws.{inputs-row, step-row}
+use Rattle.typed.specs.declared.SelectorInputs.{SelectorInputs}
+use Rattle.typed.specs.Typed.{inputsTags, inputsRow, over}
+use Rattle.typed.proofs.Laws.{inputs-row}
+use Rattle.steps.specs.declared.SelectorStep.{SelectorStep}
+use Rattle.steps.specs.Steps.{stepTags, stepRow, stepVerdict, stepMatching, stepWeighing}
+use Rattle.steps.proofs.Laws.{step-row}
 
 -- a test that was made, and what it was made of
 pub tested : (b t : Bool) → b ≡ t → not b ≡ false → t ≡ true

@@ -1,7 +1,7 @@
 use borrow.Author.Needs.{needs}
-use Rattle.typed.proofs.Laws.{step-read}
-use Rattle.typed.proofs.SelectorStep.from_row.Statement.{statement}
-use Rattle.typed.proofs.SelectorStep.from_row.Tie as tie
+use Rattle.steps.proofs.Laws.{step-read}
+use Rattle.steps.proofs.SelectorStep.from_row.Statement.{statement}
+use Rattle.steps.proofs.SelectorStep.from_row.Tie as tie
 
 step-words-requires : tie.Need-step-words-requires
 step-words-requires c κs = search needs

@@ -1,7 +1,7 @@
 use mathlib.Core.Path.{_∙_}
 use borrow.Author.Needs.{needs}
-use Rattle.typed.proofs.SelectorStep.row.Statement.{statement}
-use Rattle.typed.proofs.SelectorStep.row.Tie as tie
+use Rattle.steps.proofs.SelectorStep.row.Statement.{statement}
+use Rattle.steps.proofs.SelectorStep.row.Tie as tie
 
 flag-requires : tie.Need-flag-requires
 flag-requires c κs = search needs

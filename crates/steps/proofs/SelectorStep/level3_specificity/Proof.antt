@@ -1,8 +1,8 @@
 use borrow.Author.Needs.{needs}
 use borrow.Author.Tests.{not-true, not-false}
-use Rattle.typed.proofs.Answers.{tested, weigh-over, weigh-level3}
-use Rattle.typed.proofs.SelectorStep.level3_specificity.Statement.{statement}
-use Rattle.typed.proofs.SelectorStep.level3_specificity.Tie as tie
+use Rattle.steps.proofs.Answers.{tested, weigh-over, weigh-level3}
+use Rattle.steps.proofs.SelectorStep.level3_specificity.Statement.{statement}
+use Rattle.steps.proofs.SelectorStep.level3_specificity.Tie as tie
 
 row-requires : tie.Need-row-requires
 row-requires c κs = search needs

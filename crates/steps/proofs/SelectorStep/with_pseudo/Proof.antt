@@ -1,7 +1,7 @@
 use borrow.Author.Needs.{needs}
 use borrow.Author.Tests.{le-ltb, lt-ltb}
-use Rattle.typed.proofs.SelectorStep.with_pseudo.Statement.{statement}
-use Rattle.typed.proofs.SelectorStep.with_pseudo.Tie as tie
+use Rattle.steps.proofs.SelectorStep.with_pseudo.Statement.{statement}
+use Rattle.steps.proofs.SelectorStep.with_pseudo.Tie as tie
 
 returns : tie.Need-returns
 returns c = rw (le-ltb _ 8 (c .if1 .taken))

@@ -6,9 +6,9 @@ use screen::labelled;
 use selector::Matching;
 use selector::Specificity;
 use selector::Weighing;
+use steps::SelectorStep;
 use typed::SelectorInputs;
 use typed::SelectorInputsOwned;
-use typed::SelectorStep;
 use typed::Verdict;
 
 fn refused(out: &mut [u8], at: usize, refusal: Refusal) -> usize {

@@ -1,8 +1,8 @@
 use borrow.Author.Needs.{needs}
 use borrow.Author.Tests.{not-true, not-false}
-use Rattle.typed.proofs.Answers.{tested, step-over, subject-over, subject-unsorted, step-yes, step-no}
-use Rattle.typed.proofs.SelectorStep.matches.Statement.{statement}
-use Rattle.typed.proofs.SelectorStep.matches.Tie as tie
+use Rattle.steps.proofs.Answers.{tested, step-over, subject-over, subject-unsorted, step-yes, step-no}
+use Rattle.steps.proofs.SelectorStep.matches.Statement.{statement}
+use Rattle.steps.proofs.SelectorStep.matches.Tie as tie
 
 row-requires : tie.Need-row-requires
 row-requires c κs = search needs
