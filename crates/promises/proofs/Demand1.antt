@@ -57,9 +57,11 @@ use Rattle.channels.specs.Channels.{channelsOf}
 use Rattle.changeset.specs.Sets.{changingTold, Lists}
 use Rattle.changeset.specs.declared.Changing.{Changing}
 use Rattle.changes.specs.Changes.{resourceDependent}
-use Rattle.cascade.specs.Calls.{winnerIn, entryIn, changedIn, pairVerdict, changedVerdict, resourceVerdict}
-use Rattle.cascade.specs.Answers.{winningTold, winnerTold, channelsTold}
-use Rattle.cascade.specs.declared.Winning.{Winning}
+use Rattle.looking.specs.Calls.{winnerIn, entryIn}
+use Rattle.looking.specs.Answers.{winningTold, winnerTold}
+use Rattle.looking.specs.declared.Winning.{Winning}
+use Rattle.cascade.specs.Calls.{changedIn, pairVerdict, changedVerdict, resourceVerdict}
+use Rattle.cascade.specs.Answers.{channelsTold}
 use Rattle.cascade.specs.declared.Channels.{Channels}
 use Rattle.promises.specs.Refusing.{First, None, InTurn, Refusing, Guarding}
 use Rattle.promises.proofs.Ladders.{refusing, guarding, emptied, nested, yes-no-accepts, kind-accepts, plain-accepts, resource-accepts, entry-accepts, combinator-accepts, there-accepts, winner-accepts, diagnosis-accepts}

@@ -1,7 +1,7 @@
 use borrow.Author.Needs.{needs}
-use Rattle.cascade.proofs.Winners.{winner-is-place, found-in}
-use Rattle.cascade.proofs.look.winning_entry.Statement.{statement}
-use Rattle.cascade.proofs.look.winning_entry.Tie as tie
+use Rattle.looking.proofs.Winners.{winner-is-place, found-in}
+use Rattle.looking.proofs.look.winning_entry.Statement.{statement}
+use Rattle.looking.proofs.look.winning_entry.Tie as tie
 
 winning-source-requires : tie.Need-winning-source-requires
 winning-source-requires c κs = search needs

@@ -1,7 +1,7 @@
 use borrow.Author.Needs.{needs}
-use Rattle.cascade.proofs.Listed.{ranking-fits, rules-are, winner-stands}
-use Rattle.cascade.proofs.held.winning_source.Statement.{statement}
-use Rattle.cascade.proofs.held.winning_source.Tie as tie
+use Rattle.looking.proofs.Listed.{ranking-fits, rules-are, winner-stands}
+use Rattle.looking.proofs.held.winning_source.Statement.{statement}
+use Rattle.looking.proofs.held.winning_source.Tie as tie
 
 list-of-requires : tie.Need-list-of-requires
 list-of-requires c κs = search needs

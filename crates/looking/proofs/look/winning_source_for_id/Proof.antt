@@ -1,9 +1,9 @@
 use borrow.Author.Needs.{needs}
 use Rattle.matcher.proofs.Listed.{listing-refused}
-use Rattle.cascade.proofs.Verdicts.{state-passed, state-told}
-use Rattle.cascade.proofs.Winners.{winnings}
-use Rattle.cascade.proofs.look.winning_source_for_id.Statement.{statement}
-use Rattle.cascade.proofs.look.winning_source_for_id.Tie as tie
+use Rattle.looking.proofs.Verdicts.{state-passed, state-told}
+use Rattle.looking.proofs.Winners.{winnings}
+use Rattle.looking.proofs.look.winning_source_for_id.Statement.{statement}
+use Rattle.looking.proofs.look.winning_source_for_id.Tie as tie
 
 state-verdict-requires : tie.Need-state-verdict-requires
 state-verdict-requires c κs = search needs

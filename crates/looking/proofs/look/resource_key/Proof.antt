@@ -1,7 +1,7 @@
 use borrow.Author.Needs.{needs}
-use Rattle.cascade.proofs.Looking.{lookings}
-use Rattle.cascade.proofs.look.resource_key.Statement.{statement}
-use Rattle.cascade.proofs.look.resource_key.Tie as tie
+use Rattle.looking.proofs.Looking.{lookings}
+use Rattle.looking.proofs.look.resource_key.Statement.{statement}
+use Rattle.looking.proofs.look.resource_key.Tie as tie
 
 value-kind-requires : tie.Need-value-kind-requires
 value-kind-requires c κs = search needs

@@ -1,9 +1,9 @@
 use borrow.Author.Needs.{needs}
 use Rattle.matcher.proofs.Listed.{listing-refused}
-use Rattle.cascade.proofs.Verdicts.{state-passed, state-told}
-use Rattle.cascade.proofs.Looking.{kind-fits, entry-told, nothing-told}
-use Rattle.cascade.proofs.look.value_kind.Statement.{statement}
-use Rattle.cascade.proofs.look.value_kind.Tie as tie
+use Rattle.looking.proofs.Verdicts.{state-passed, state-told}
+use Rattle.looking.proofs.Looking.{kind-fits, entry-told, nothing-told}
+use Rattle.looking.proofs.look.value_kind.Statement.{statement}
+use Rattle.looking.proofs.look.value_kind.Tie as tie
 
 state-verdict-requires : tie.Need-state-verdict-requires
 state-verdict-requires c κs = search needs

@@ -1,7 +1,7 @@
 use borrow.Author.Needs.{needs}
-use Rattle.cascade.proofs.Looking.{lookings}
-use Rattle.cascade.proofs.look.get_entry_ref.Statement.{statement}
-use Rattle.cascade.proofs.look.get_entry_ref.Tie as tie
+use Rattle.looking.proofs.Looking.{lookings}
+use Rattle.looking.proofs.look.get_entry_ref.Statement.{statement}
+use Rattle.looking.proofs.look.get_entry_ref.Tie as tie
 
 value-kind-requires : tie.Need-value-kind-requires
 value-kind-requires c κs = search needs

@@ -31,10 +31,10 @@ use Rattle.winners.specs.Winners as winners
 use Rattle.winners.specs.Best.{isPlace, Finds}
 use Rattle.winners.specs.declared.Found.{Found}
 use Rattle.winners.specs.declared.Found.the-variants as found
-use Rattle.cascade.specs.Calls.{rulesAt, winnerIn, entryIn}
-use Rattle.cascade.proofs.Listed.{rules-are}
-use Rattle.cascade.proofs.Verdicts.{state-passed}
-use Rattle.cascade.proofs.Winners.{winner-there}
+use Rattle.looking.specs.Calls.{rulesAt, winnerIn, entryIn}
+use Rattle.looking.proofs.Listed.{rules-are}
+use Rattle.looking.proofs.Verdicts.{state-passed}
+use Rattle.looking.proofs.Winners.{winner-there}
 
 -- ---- the kind
 

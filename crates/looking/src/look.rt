@@ -21,8 +21,8 @@ ghost use Rattle.table.specs.Tables.{table, statesIn};
 ghost use Rattle.table.specs.Shape.{tableShape};
 ghost use Rattle.table.specs.Calls.{stateVerdict};
 ghost use Rattle.winners.specs.Best.{Finds};
-ghost use Rattle.cascade.specs.Calls.{winnerIn, entryIn};
-ghost use Rattle.cascade.specs.Answers.{winningTold, winnerTold};
+ghost use Rattle.looking.specs.Calls.{winnerIn, entryIn};
+ghost use Rattle.looking.specs.Answers.{winningTold, winnerTold};
 
 // `StyleCascade::winning_source_for_id`
 pub fn winning_source_for_id(

@@ -23,9 +23,9 @@ use Rattle.winners.specs.declared.Best.{Best}
 use Rattle.winners.specs.declared.Best.the-variants as best
 use Rattle.winners.specs.declared.Found.{Found}
 use Rattle.keys.specs.declared.CascadeEntryKey.{CascadeEntryKey}
-use Rattle.cascade.specs.Calls.{winnerIn, entryIn}
-use Rattle.cascade.specs.Answers.{winnerTold}
-use Rattle.cascade.proofs.Listed.{rules-are}
+use Rattle.looking.specs.Calls.{winnerIn, entryIn}
+use Rattle.looking.specs.Answers.{winnerTold}
+use Rattle.looking.proofs.Listed.{rules-are}
 
 -- ---- it is a source of the sheet
 
