@@ -6,7 +6,7 @@
 -- `Refusing checks told` says so of what the answer tells, `Guarding checks told before after` of that and of memory. There is always one number or none
 -- (Ladders.antt, `decided`, `one-number`). Each test is defined in the specs/ of its crate, under its line of 01's table; w is a sheet's words, t a table's.
 -- Demand1Rest.antt has the calls for which 01's "Order" has no line. Refusal 10 is of house records, which no call here takes: `walkOf` (house, specs/House) says when,
--- and `pieces-print` (walked) that it is printed. The calls that tell a verdict (`admit`, `matcher::states`) have the verdict itself for their contract.
+-- and `pieces-print` (walked) that it is printed. The calls that tell a verdict (`admit`, `joining`, `matcher::states`) have the verdict itself for their contract.
 use mathlib.Core.Path.{_≡_, refl, _∙_}
 use mathlib.Core.Logic.{_↔_, _⊎_}
 use mathlib.Core.Bool.{true, not}

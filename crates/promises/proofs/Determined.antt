@@ -65,7 +65,7 @@ use Rattle.promises.specs.Determined.{Determined, DeterminedPart}
 module _ {A : Type 0} where
   -- a contract that says what the answer, or the memory at exit, is. These calls have no other: `lent::Refusal`'s; those of `lent::words` and `lent::sets`;
   -- `lent::lists::address`, `cell`, `start_of`; `PropertyId::index`, `compare`; the constructors, `row` and `from_row` of `SelectorInputs` and `SelectorStep`;
-  -- those of `sheet::shape`, `table::shape`, `admit::sources`, `admit::cascades` and `matcher::states`; `root_state`; `cursor::index_after`;
+  -- those of `sheet::shape`, `table::shape`, `admit::sources`, `joining::cascades` and `matcher::states`; `root_state`; `cursor::index_after`;
   -- `CascadeEntryKey::compare`; `ChannelSet::contains`, `is_empty`, `len`.
   pub said-determined : (x : A) → Determined (λ r. r ≡ x)
   said-determined x a b p q = p ∙ sym q

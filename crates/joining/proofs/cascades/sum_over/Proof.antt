@@ -1,9 +1,9 @@
 use borrow.Author.Needs.{needs}
-use Rattle.admit.proofs.Sums.{sum-wide}
-use Rattle.admit.proofs.cascades.sum_over.Statement.{statement}
-use Rattle.admit.proofs.cascades.sum_over.Tie as tie
-use Rattle.admit.proofs.cascades.sum_over.Reads as reads
-use Rattle.admit.proofs.cascades.sum_over.Lts as lts
+use Rattle.joining.proofs.Sums.{sum-wide}
+use Rattle.joining.proofs.cascades.sum_over.Statement.{statement}
+use Rattle.joining.proofs.cascades.sum_over.Tie as tie
+use Rattle.joining.proofs.cascades.sum_over.Reads as reads
+use Rattle.joining.proofs.cascades.sum_over.Lts as lts
 use Rattle.lent.proofs.words.wide.Reads as wide-reads
 use Rattle.lent.proofs.words.word.Reads as word-reads
 

@@ -1,10 +1,10 @@
 use borrow.Author.Needs.{needs}
-use Rattle.admit.proofs.Largest.{index-right, index-left}
-use Rattle.admit.proofs.cascades.largest_index.Statement.{statement}
-use Rattle.admit.proofs.cascades.largest_index.Tie as tie
-use Rattle.admit.proofs.cascades.largest_index.Reads as reads
-use Rattle.admit.proofs.cascades.largest_index.Lts as lts
-use Rattle.admit.proofs.cascades.largest_in.Reads as largest-in-reads
+use Rattle.joining.proofs.Largest.{index-right, index-left}
+use Rattle.joining.proofs.cascades.largest_index.Statement.{statement}
+use Rattle.joining.proofs.cascades.largest_index.Tie as tie
+use Rattle.joining.proofs.cascades.largest_index.Reads as reads
+use Rattle.joining.proofs.cascades.largest_index.Lts as lts
+use Rattle.joining.proofs.cascades.largest_in.Reads as largest-in-reads
 use Rattle.lent.proofs.words.word.Reads as word-reads
 
 -- src/cascades.rt:68:39

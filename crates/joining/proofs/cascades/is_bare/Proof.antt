@@ -1,7 +1,7 @@
 use borrow.Author.Needs.{needs}
-use Rattle.admit.proofs.Largest.{bare-not, bare-rules}
-use Rattle.admit.proofs.cascades.is_bare.Statement.{statement}
-use Rattle.admit.proofs.cascades.is_bare.Tie as tie
+use Rattle.joining.proofs.Largest.{bare-not, bare-rules}
+use Rattle.joining.proofs.cascades.is_bare.Statement.{statement}
+use Rattle.joining.proofs.cascades.is_bare.Tie as tie
 
 word-requires : tie.Need-word-requires
 word-requires c κs = search needs

@@ -1,11 +1,11 @@
 use borrow.Author.Needs.{needs}
-use Rattle.admit.proofs.Largest.{over-none, over-some}
-use Rattle.admit.proofs.cascades.indexes_over.Statement.{statement}
-use Rattle.admit.proofs.cascades.indexes_over.Tie as tie
-use Rattle.admit.proofs.cascades.indexes_over.Reads as reads
-use Rattle.admit.proofs.cascades.indexes_over.Lts as lts
-use Rattle.admit.proofs.cascades.is_bare.Reads as is-bare-reads
-use Rattle.admit.proofs.cascades.largest_index.Reads as largest-index-reads
+use Rattle.joining.proofs.Largest.{over-none, over-some}
+use Rattle.joining.proofs.cascades.indexes_over.Statement.{statement}
+use Rattle.joining.proofs.cascades.indexes_over.Tie as tie
+use Rattle.joining.proofs.cascades.indexes_over.Reads as reads
+use Rattle.joining.proofs.cascades.indexes_over.Lts as lts
+use Rattle.joining.proofs.cascades.is_bare.Reads as is-bare-reads
+use Rattle.joining.proofs.cascades.largest_index.Reads as largest-index-reads
 use Rattle.lent.proofs.words.wide.Reads as wide-reads
 use Rattle.lent.proofs.words.word.Reads as word-reads
 

@@ -1,12 +1,12 @@
 use borrow.Author.Needs.{needs}
 use native.Mathlib.Omega.{arith}
 use Rattle.given.specs.Pushing.{sumsOver}
-use Rattle.admit.proofs.Sums.{sums}
-use Rattle.admit.proofs.cascades.sums_over.Statement.{statement}
-use Rattle.admit.proofs.cascades.sums_over.Tie as tie
-use Rattle.admit.proofs.cascades.sums_over.Reads as reads
-use Rattle.admit.proofs.cascades.sums_over.Lts as lts
-use Rattle.admit.proofs.cascades.sum_over.Reads as sum-over-reads
+use Rattle.joining.proofs.Sums.{sums}
+use Rattle.joining.proofs.cascades.sums_over.Statement.{statement}
+use Rattle.joining.proofs.cascades.sums_over.Tie as tie
+use Rattle.joining.proofs.cascades.sums_over.Reads as reads
+use Rattle.joining.proofs.cascades.sums_over.Lts as lts
+use Rattle.joining.proofs.cascades.sum_over.Reads as sum-over-reads
 use Rattle.given.proofs.held.all_entries.Reads as all-entries-reads
 
 -- src/cascades.rt:28:8

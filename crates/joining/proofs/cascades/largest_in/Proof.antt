@@ -2,9 +2,9 @@ use borrow.Author.Needs.{needs}
 use mathlib.Core.Logic.{inl, inr}
 use Prim.Native.Nat.{_-_}
 use Rattle.lent.specs.Pool.{endsIn}
-use Rattle.admit.proofs.Largest.{Most, most-start, most-next, most-kept, most-end}
-use Rattle.admit.proofs.cascades.largest_in.Statement.{statement}
-use Rattle.admit.proofs.cascades.largest_in.Tie as tie
+use Rattle.joining.proofs.Largest.{Most, most-start, most-next, most-kept, most-end}
+use Rattle.joining.proofs.cascades.largest_in.Statement.{statement}
+use Rattle.joining.proofs.cascades.largest_in.Tie as tie
 
 abbrev Inv-loop : tie.InvT-loop
 Inv-loop sheet column n most₀ k₀ most k = Most (endsIn sheet (column .base) (column .stride)) n k most
