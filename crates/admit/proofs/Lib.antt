@@ -1,4 +1,2 @@
 pub mod Ladders
 pub mod Rules
-pub mod Largest
-pub mod Sums

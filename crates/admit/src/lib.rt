@@ -1,4 +1,3 @@
-// When a push is refused: 01's table and its "Order".
-pub mod cascades;
+// When a push of a style or a group is refused: 01's table and its "Order".
 pub mod held;
 pub mod sources;

@@ -17,8 +17,8 @@ use Rattle.keys.specs.declared.CascadeEntryKey.{CascadeEntryKey}
 use Rattle.changeset.specs.declared.Changing.{Changing}
 use Rattle.changeset.specs.Sets.{Lists}
 use Rattle.matcher.proofs.Answers.{accepted, refused}
-use Rattle.cascade.specs.declared.Winning.{Winning}
-use Rattle.cascade.specs.Answers.{winningTold, winnerTold}
+use Rattle.looking.specs.declared.Winning.{Winning}
+use Rattle.looking.specs.Answers.{winningTold, winnerTold}
 use Rattle.bench.specs.Numbers.{REFUSED, Outcome}
 use Rattle.bench.proofs.Laws.{outcome-yes, outcome-no}
 use Rattle.bench.specs.Winners.{NOBODY, DIRECT, placeNumber, bestNumber, winningNumber, changingNumber}

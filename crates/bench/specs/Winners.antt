@@ -11,8 +11,9 @@ use Rattle.table.specs.Calls.{stateVerdict}
 use Rattle.winners.specs.Winners.{Place, style, rule}
 use Rattle.winners.specs.declared.Best.{Best}
 use Rattle.changeset.specs.declared.Changing.{Changing}
-use Rattle.cascade.specs.declared.Winning.{Winning}
-use Rattle.cascade.specs.Calls.{winnerIn, changedIn, changedVerdict}
+use Rattle.looking.specs.declared.Winning.{Winning}
+use Rattle.looking.specs.Calls.{winnerIn}
+use Rattle.cascade.specs.Calls.{changedIn, changedVerdict}
 use Rattle.bench.specs.Numbers.{REFUSED, Outcome}
 
 -- no source: no rule has this number

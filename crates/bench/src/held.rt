@@ -15,7 +15,8 @@ ghost use Rattle.selector.specs.Checks.{rowFits, tagsAscend};
 ghost use Rattle.sheet.specs.Shape.{sheetShape};
 ghost use Rattle.table.specs.Tables.{table, matchedAt, statesIn};
 ghost use Rattle.table.specs.Shape.{tableShape};
-ghost use Rattle.cascade.specs.Calls.{winnerIn, changedIn};
+ghost use Rattle.looking.specs.Calls.{winnerIn};
+ghost use Rattle.cascade.specs.Calls.{changedIn};
 ghost use Rattle.bench.specs.Numbers.{settledNumber, EntersHeld, Copied};
 ghost use Rattle.bench.specs.Winners.{bestNumber, placeNumber};
 
@@ -98,7 +99,7 @@ pub extern "C" fn bench_held_winner(
     requires { ⌜ number < statesIn (now head) ⌝ }
     ensures { λ r. ⌜ r ≡ placeNumber (winnerIn (now (sheet .entry)) (table (now (head .entry)) (now (states .entry)) (now (cursors .entry)) (now (matched .entry)) (now (transitions .entry))) number property) ⌝ }
 {
-    let best = cascade::held::winning_source(
+    let best = looking::held::winning_source(
         sheet,
         head,
         states,

@@ -1,8 +1,8 @@
 // Winners and changes: the public calls.
 use crate::REFUSED;
-use cascade::Winning;
 use changeset::Changing;
 use lent::words::wide;
+use looking::Winning;
 use matcher::MatchState;
 ghost use mathlib.Core.Path.{_≡_};
 ghost use Prim.Native.Nat.{_+_};
@@ -57,7 +57,7 @@ pub extern "C" fn bench_winner(
     ensures { λ r. ⌜ r ≡ winnerNumber (now (sheet .entry)) (table (now (head .entry)) (now (states .entry)) (now (cursors .entry)) (now (matched .entry)) (now (transitions .entry))) number stamp property ⌝ }
 {
     let state = MatchState { number, stamp };
-    let winning = cascade::look::winning_source_for_id(
+    let winning = looking::look::winning_source_for_id(
         sheet,
         head,
         states,

@@ -121,7 +121,7 @@ pub fn push_rules(
 pub fn push_cascade(sheet: &mut [u32], cascade: &[u32]) -> Pushing
     ensures { λ r. ⌜ Push (cascadeVerdict (now (sheet .entry)) (now (cascade .entry))) (now (sheet .entry)) (pushedCascade (now (sheet .entry)) (now (cascade .entry))) r (now (sheet .exit)) ⌝ }
 {
-    let v = admit::cascades::cascade_verdict(sheet, cascade);
+    let v = joining::cascades::cascade_verdict(sheet, cascade);
     if v != 0 {
         return Pushing::Refused(Refusal::of(v));
     }

@@ -5,37 +5,17 @@ use Prim.Native.Nat.{ℕ}
 use lib.ListN.{getD}
 use Rattle.lent.specs.Refusals.{answered}
 use Rattle.lent.proofs.Refusals.{readBack, read-refused}
-use Rattle.style.specs.Looking.{kindTold, kindOf, plainTold, plainOf, resourceTold, resourceOf}
-use Rattle.style.specs.declared.StyleValueKind.{StyleValueKind}
-use Rattle.style.specs.declared.StyleValueRef.{StyleValueRef}
-use Rattle.style.specs.declared.ResourceKey.{ResourceKey}
-use Rattle.style.proofs.Distinct.{kind-distinct, plain-distinct, resource-distinct}
 use Rattle.table.specs.Tables.{Table}
-use Rattle.table.specs.Calls.{stateVerdict}
 use Rattle.channels.specs.Channels.{channelsOf}
 use Rattle.changeset.specs.Sets.{Lists}
 use Rattle.changeset.specs.declared.Changing.{Changing}
 use Rattle.changeset.proofs.Distinct.{lists-determined}
 use Rattle.changes.specs.Changes.{resourceDependent}
-use Rattle.cascade.specs.Calls.{winnerIn, entryIn, changedIn, pairVerdict, changedVerdict, resourceVerdict}
-use Rattle.cascade.specs.Answers.{winningTold, winnerTold, channelsTold}
-use Rattle.cascade.specs.declared.Winning.{Winning}
+use Rattle.cascade.specs.Calls.{changedIn, pairVerdict, changedVerdict, resourceVerdict}
+use Rattle.cascade.specs.Answers.{channelsTold}
 use Rattle.cascade.specs.declared.Channels.{Channels}
 
 -- ---- read back
-
-abbrev winningFrom : List ℕ → Winning
-winningFrom l = getD (Winning.Nobody ∷ Winning.Direct (getD l 1 0) (getD l 2 0) ∷ Winning.Rule (getD l 1 0) (getD l 2 0) ∷ []) (getD l 0 0) Winning.Nobody
-
-winning-back : (r : Winning) → readBack winningFrom Winning.Refused (winningTold r) ≡ r
-unfolding readBack
-winning-back Winning.Nobody = refl
-winning-back (Winning.Direct d source) = refl
-winning-back (Winning.Rule n source) = refl
-winning-back (Winning.Refused r) = read-refused winningFrom Winning.Refused r
-
-pub winning-distinct : (a b : Winning) → winningTold a ≡ winningTold b → a ≡ b
-winning-distinct a b e = sym (winning-back a) ∙ ap (readBack winningFrom Winning.Refused) e ∙ winning-back b
 
 abbrev setFrom : List ℕ → Channels
 setFrom l = Channels.Set (record { 0 = getD l 0 0 })
@@ -49,22 +29,6 @@ pub channels-distinct : (a b : Channels) → channelsTold a ≡ channelsTold b �
 channels-distinct a b e = sym (channels-back a) ∙ ap (readBack setFrom Channels.Refused) e ∙ channels-back b
 
 -- ---- THEOREM: any two outcomes that a call's contract allows are equal, answer and memory
-
-module _ (w : List ℕ) (t : Table) (number stamp p : ℕ) where
-  abbrev told : List ℕ → List ℕ
-  told = answered (stateVerdict w t number stamp)
-
-  pub winner-determined : {r r′ : Winning} → winningTold r ≡ told (winnerTold w (winnerIn w t number p)) → winningTold r′ ≡ told (winnerTold w (winnerIn w t number p)) → r ≡ r′
-  winner-determined {r} {r′} e f = winning-distinct r r′ (e ∙ sym f)
-
-  pub kind-determined : {r r′ : StyleValueKind} → kindTold r ≡ told (kindOf (entryIn w t number p)) → kindTold r′ ≡ told (kindOf (entryIn w t number p)) → r ≡ r′
-  kind-determined {r} {r′} e f = kind-distinct r r′ (e ∙ sym f)
-
-  pub plain-determined : {r r′ : StyleValueRef} → plainTold r ≡ told (plainOf (entryIn w t number p)) → plainTold r′ ≡ told (plainOf (entryIn w t number p)) → r ≡ r′
-  plain-determined {r} {r′} e f = plain-distinct r r′ (e ∙ sym f)
-
-  pub resource-determined : {r r′ : ResourceKey} → resourceTold r ≡ told (resourceOf (entryIn w t number p)) → resourceTold r′ ≡ told (resourceOf (entryIn w t number p)) → r ≡ r′
-  resource-determined {r} {r′} e f = resource-distinct r r′ (e ∙ sym f)
 
 module _ (w : List ℕ) (t : Table) (old oldStamp new newStamp : ℕ) where
   pub changed-determined : {out u u′ : List ℕ} {r r′ : Changing} → Lists (changedVerdict w t old oldStamp new newStamp out) (changedIn w t old new) out r u

@@ -26,7 +26,7 @@ use Rattle.sheet.proofs.Shaped.{Shaped, StepShaped}
 use Rattle.laid.proofs.Frame.{steps-flat}
 use Rattle.laid.proofs.Held.{first-suc, most-spread, ends-flat, first-ids}
 use Rattle.given.specs.Pushing.{indexesOf, shiftStyle, shiftRule, largest}
-use Rattle.admit.proofs.Largest.{indexes-are}
+use Rattle.joining.proofs.Largest.{indexes-are}
 use Rattle.given.specs.declared.Counts.{Counts}
 use Rattle.given.specs.Leaves.{partOf, heldRow, heldStyleRow}
 

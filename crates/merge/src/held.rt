@@ -1,12 +1,12 @@
 // What an accepted push of a cascade writes. The checks have passed it.
-use admit::cascades::is_bare;
-use admit::cascades::largest_index;
 use given::Counts;
 use given::held::counts;
 use given::held::put_counts;
 use given::held::put_rule_row;
 use given::held::put_step;
 use given::held::put_style_row;
+use joining::cascades::is_bare;
+use joining::cascades::largest_index;
 use lent::held::part;
 use lent::lists::cell;
 use lent::words::copy_into;

@@ -29,9 +29,11 @@ use Rattle.channels.specs.Channels.{channelsOf}
 use Rattle.changeset.specs.Sets.{changingTold, Lists}
 use Rattle.changeset.specs.declared.Changing.{Changing}
 use Rattle.changes.specs.Changes.{changedOf}
-use Rattle.cascade.specs.Calls.{winnerIn, entryIn, changedIn, pairVerdict, changedVerdict}
-use Rattle.cascade.specs.Answers.{winningTold, winnerTold, channelsTold}
-use Rattle.cascade.specs.declared.Winning.{Winning}
+use Rattle.looking.specs.Calls.{winnerIn, entryIn}
+use Rattle.looking.specs.Answers.{winningTold, winnerTold}
+use Rattle.looking.specs.declared.Winning.{Winning}
+use Rattle.cascade.specs.Calls.{changedIn, pairVerdict, changedVerdict}
+use Rattle.cascade.specs.Answers.{channelsTold}
 use Rattle.cascade.specs.declared.Channels.{Channels}
 use Rattle.covered.specs.Covered.{Covered, Reached}
 use Rattle.covered.specs.Covered.After.{none}

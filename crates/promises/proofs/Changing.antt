@@ -20,7 +20,8 @@ use Rattle.winners.specs.Winners.{Place, keyAt, holdsAt, placesFor, winningKeyO
 use Rattle.channels.specs.Channels.{channelsOf}
 use Rattle.channels.proofs.Union.{channel-named}
 use Rattle.changes.specs.Changes.{changedOf}
-use Rattle.cascade.specs.Calls.{rulesAt, winnerIn, entryIn, changedIn}
+use Rattle.looking.specs.Calls.{rulesAt, winnerIn, entryIn}
+use Rattle.cascade.specs.Calls.{changedIn}
 use Rattle.covered.specs.Covered.{Covered, Reached}
 use Rattle.promises.proofs.Listed.{listed-is}
 use Rattle.promises.proofs.Places.{Within, places-told, places-within, listed-below}

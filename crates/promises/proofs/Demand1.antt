@@ -6,7 +6,7 @@
 -- `Refusing checks told` says so of what the answer tells, `Guarding checks told before after` of that and of memory. There is always one number or none
 -- (Ladders.antt, `decided`, `one-number`). Each test is defined in the specs/ of its crate, under its line of 01's table; w is a sheet's words, t a table's.
 -- Demand1Rest.antt has the calls for which 01's "Order" has no line. Refusal 10 is of house records, which no call here takes: `walkOf` (house, specs/House) says when,
--- and `pieces-print` (walked) that it is printed. The calls that tell a verdict (`admit`, `matcher::states`) have the verdict itself for their contract.
+-- and `pieces-print` (walked) that it is printed. The calls that tell a verdict (`admit`, `joining`, `matcher::states`) have the verdict itself for their contract.
 use mathlib.Core.Path.{_≡_, refl, _∙_}
 use mathlib.Core.Logic.{_↔_, _⊎_}
 use mathlib.Core.Bool.{true, not}
@@ -57,9 +57,11 @@ use Rattle.channels.specs.Channels.{channelsOf}
 use Rattle.changeset.specs.Sets.{changingTold, Lists}
 use Rattle.changeset.specs.declared.Changing.{Changing}
 use Rattle.changes.specs.Changes.{resourceDependent}
-use Rattle.cascade.specs.Calls.{winnerIn, entryIn, changedIn, pairVerdict, changedVerdict, resourceVerdict}
-use Rattle.cascade.specs.Answers.{winningTold, winnerTold, channelsTold}
-use Rattle.cascade.specs.declared.Winning.{Winning}
+use Rattle.looking.specs.Calls.{winnerIn, entryIn}
+use Rattle.looking.specs.Answers.{winningTold, winnerTold}
+use Rattle.looking.specs.declared.Winning.{Winning}
+use Rattle.cascade.specs.Calls.{changedIn, pairVerdict, changedVerdict, resourceVerdict}
+use Rattle.cascade.specs.Answers.{channelsTold}
 use Rattle.cascade.specs.declared.Channels.{Channels}
 use Rattle.promises.specs.Refusing.{First, None, InTurn, Refusing, Guarding}
 use Rattle.promises.proofs.Ladders.{refusing, guarding, emptied, nested, yes-no-accepts, kind-accepts, plain-accepts, resource-accepts, entry-accepts, combinator-accepts, there-accepts, winner-accepts, diagnosis-accepts}

@@ -26,10 +26,11 @@ use Rattle.winners.specs.Winners as winners
 use Rattle.winners.specs.Winners.{Place, style}
 use Rattle.changeset.specs.Sets.{Lists}
 use Rattle.changeset.specs.declared.Changing.{Changing}
-use Rattle.cascade.specs.Calls.{winnerIn, changedIn, changedVerdict}
-use Rattle.cascade.specs.Answers.{winningTold, winnerTold}
-use Rattle.cascade.specs.declared.Winning.{Winning}
-use Rattle.cascade.proofs.Distinct.{winning-distinct}
+use Rattle.looking.specs.Calls.{winnerIn}
+use Rattle.looking.specs.Answers.{winningTold, winnerTold}
+use Rattle.looking.specs.declared.Winning.{Winning}
+use Rattle.looking.proofs.Distinct.{winning-distinct}
+use Rattle.cascade.specs.Calls.{changedIn, changedVerdict}
 use Rattle.covered.specs.Covered.{Builds, Reached}
 use Rattle.covered.specs.Rooms.{Roomy, verdictsAlong, tableAlong, numberAlong}
 use Rattle.covered.proofs.Reached.{covered-sound, reached-covered, reached-is}

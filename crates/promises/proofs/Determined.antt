@@ -52,10 +52,13 @@ use Rattle.changeset.specs.Sets as Sets
 use Rattle.changeset.specs.Sets.{changingTold, Lists, setOf, countVerdict, oneIf}
 use Rattle.changeset.specs.declared.Changing.{Changing}
 use Rattle.changeset.proofs.Distinct as SetAnswers
-use Rattle.cascade.specs.Calls.{winnerIn, entryIn, changedIn, pairVerdict}
-use Rattle.cascade.specs.Answers.{winningTold, winnerTold, channelsTold}
-use Rattle.cascade.proofs.Distinct.{winner-determined, channels-determined}
-use Rattle.cascade.proofs.Distinct as Cascade
+use Rattle.looking.specs.Calls.{winnerIn, entryIn}
+use Rattle.looking.specs.Answers.{winningTold, winnerTold}
+use Rattle.looking.proofs.Distinct.{winner-determined}
+use Rattle.looking.proofs.Distinct as Looking
+use Rattle.cascade.specs.Calls.{changedIn, pairVerdict}
+use Rattle.cascade.specs.Answers.{channelsTold}
+use Rattle.cascade.proofs.Distinct.{channels-determined}
 use Rattle.promises.specs.Determined.{Determined, DeterminedPart}
 
 -- ---- any call
@@ -63,7 +66,7 @@ use Rattle.promises.specs.Determined.{Determined, DeterminedPart}
 module _ {A : Type 0} where
   -- a contract that says what the answer, or the memory at exit, is. These calls have no other: `lent::Refusal`'s; those of `lent::words` and `lent::sets`;
   -- `lent::lists::address`, `cell`, `start_of`; `PropertyId::index`, `compare`; the constructors, `row` and `from_row` of `SelectorInputs` and `SelectorStep`;
-  -- those of `TypeChoice` and `PartChoice`; those of `sheet::shape`, `table::shape`, `admit::sources`, `admit::cascades` and `matcher::states`; `root_state`; `cursor::index_after`;
+  -- those of `TypeChoice` and `PartChoice`; those of `sheet::shape`, `table::shape`, `admit::sources`, `joining::cascades` and `matcher::states`; `root_state`; `cursor::index_after`;
   -- `CascadeEntryKey::compare`; `ChannelSet::contains`, `is_empty`, `len`.
   pub said-determined : (x : A) → Determined (λ r. r ≡ x)
   said-determined x a b p q = p ∙ sym q
@@ -235,7 +238,7 @@ module _ (ids : List ℕ) (n : ℕ) where
   pub set-empty-determined : Determined (λ r. Sets.emptinessTold r ≡ answered (countVerdict ids n) (0 ∷ oneIf (eqb (length (setOf ids n)) 0) ∷ []))
   set-empty-determined = told-determined SetAnswers.emptiness-distinct (answered (countVerdict ids n) (0 ∷ oneIf (eqb (length (setOf ids n)) 0) ∷ []))
 
--- ---- cascade: `winning_source_for_id`, `value_kind`, `get_entry_ref`, `resource_key`; `changed_channels`
+-- ---- looking, cascade: `winning_source_for_id`, `value_kind`, `get_entry_ref`, `resource_key`; `changed_channels`
 
 module _ (w : List ℕ) (t : Table) where
   module _ (number stamp property : ℕ) where
@@ -243,13 +246,13 @@ module _ (w : List ℕ) (t : Table) where
     winning-source-determined a b p q = winner-determined w t number stamp property p q
 
     pub value-kind-determined : Determined (λ r. kindTold r ≡ answered (stateVerdict w t number stamp) (kindOf (entryIn w t number property)))
-    value-kind-determined a b p q = Cascade.kind-determined w t number stamp property p q
+    value-kind-determined a b p q = Looking.kind-determined w t number stamp property p q
 
     pub entry-ref-determined : Determined (λ r. plainTold r ≡ answered (stateVerdict w t number stamp) (plainOf (entryIn w t number property)))
-    entry-ref-determined a b p q = Cascade.plain-determined w t number stamp property p q
+    entry-ref-determined a b p q = Looking.plain-determined w t number stamp property p q
 
     pub resource-key-determined : Determined (λ r. resourceTold r ≡ answered (stateVerdict w t number stamp) (resourceOf (entryIn w t number property)))
-    resource-key-determined a b p q = Cascade.resource-determined w t number stamp property p q
+    resource-key-determined a b p q = Looking.resource-determined w t number stamp property p q
 
   pub changed-channels-determined : (old oldStamp new newStamp : ℕ) (masks : List ℕ)
       → Determined (λ r. channelsTold r ≡ answered (pairVerdict w t old oldStamp new newStamp) (0 ∷ channelsOf masks (changedIn w t old new) ∷ []))

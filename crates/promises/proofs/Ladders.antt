@@ -26,10 +26,10 @@ use Rattle.style.specs.Looking.{kindOf, plainOf, resourceOf, placeIn}
 use Rattle.reading.specs.Reading.{entryNumbers, combinatorNumbers}
 use Rattle.matcher.proofs.Answers.{accepted}
 use Rattle.winners.specs.Winners.{Place, style, rule}
-use Rattle.cascade.specs.Answers.{winnerTold}
+use Rattle.looking.specs.Answers.{winnerTold}
 use Rattle.promises.specs.Refusing.{First, here, later, None, InTurn, Refusing, Guarding}
 
--- ---- `firstOf` is what the checks give: so it is of the calls that answer a verdict's number, `admit`'s and `matcher::states::state_verdict`
+-- ---- `firstOf` is what the checks give: so it is of the calls that answer a verdict's number, those of `admit` and `joining` and `matcher::states::state_verdict`
 
 first-number : (l : List Check) (n : ℕ) → First l n → firstOf l ≡ n
 first-number (c ∷ l) n (here f e) = first-here c l f ∙ e

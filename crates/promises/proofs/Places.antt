@@ -20,7 +20,7 @@ use Rattle.made.specs.Made.{Made}
 use Rattle.made.proofs.Promises.{made-differ}
 use Rattle.table.specs.Tables.{Table, statesIn}
 use Rattle.winners.specs.Winners.{Place, style, rule, sourceAt, holdsAt, keyAt, placesFor}
-use Rattle.cascade.specs.Calls.{rulesAt}
+use Rattle.looking.specs.Calls.{rulesAt}
 use Rattle.covered.specs.Covered.{Covered}
 use Rattle.covered.proofs.Held.{spread-in}
 use Rattle.covered.proofs.Sound.{rule-exists}

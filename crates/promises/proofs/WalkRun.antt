@@ -17,9 +17,10 @@ use Rattle.entering.specs.Answers.{Enter}
 use Rattle.entering.specs.declared.Entering.{Entering}
 use Rattle.changeset.specs.Sets.{changingTold, Lists}
 use Rattle.changeset.specs.declared.Changing.{Changing}
-use Rattle.cascade.specs.Calls.{winnerIn, changedIn, changedVerdict}
-use Rattle.cascade.specs.Answers.{winningTold, winnerTold}
-use Rattle.cascade.specs.declared.Winning.{Winning}
+use Rattle.looking.specs.Calls.{winnerIn}
+use Rattle.looking.specs.Answers.{winningTold, winnerTold}
+use Rattle.looking.specs.declared.Winning.{Winning}
+use Rattle.cascade.specs.Calls.{changedIn, changedVerdict}
 use Rattle.covered.specs.Covered.{Reached}
 use Rattle.covered.proofs.Reached.{reached-covered}
 use Rattle.promises.specs.Walk.{typed, subject, walkSheet, walk, Lent, state}

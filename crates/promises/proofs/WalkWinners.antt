@@ -24,8 +24,9 @@ use Rattle.sheet.specs.Sheets.{Style, Rule, Sheet, styleAt, ruleAt, sheetOf}
 use Rattle.table.specs.Tables.{Table, rankingIn}
 use Rattle.winners.specs.Winners.{Place, style, rule, holdsAt, keyAt, placesFor, winnerOf, winningKeyOf, isThere}
 use Rattle.changes.specs.Changes.{changedOf}
-use Rattle.cascade.specs.Calls.{rulesAt, winnerIn, changedIn}
-use Rattle.cascade.specs.Answers.{winnerTold}
+use Rattle.looking.specs.Calls.{rulesAt, winnerIn}
+use Rattle.looking.specs.Answers.{winnerTold}
+use Rattle.cascade.specs.Calls.{changedIn}
 use Rattle.covered.specs.Covered.{Reached}
 use Rattle.promises.specs.Walk.{typed, entry, walkSheet}
 use Rattle.promises.proofs.Changing.{unchanged}

@@ -21,7 +21,7 @@ use Rattle.sheet.specs.Layout.{rulesIn}
 use Rattle.table.specs.Tables.{Table, selectorsOf, rankingIn}
 use Rattle.table.specs.Entering.{built}
 use Rattle.winners.specs.Winners.{Place, keyAt, holdsAt, placesFor, winnerOf, entryOf}
-use Rattle.cascade.specs.Calls.{rulesAt, winnerIn, entryIn}
+use Rattle.looking.specs.Calls.{rulesAt, winnerIn, entryIn}
 use Rattle.covered.specs.Covered.{Builds, Covered, Reached, After}
 use Rattle.covered.specs.Covered.Covered.{built as is-built}
 use Rattle.covered.specs.Covered.After.{none as no-more}

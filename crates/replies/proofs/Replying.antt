@@ -34,8 +34,9 @@ use Rattle.changes.specs.Asked.{asked, differing}
 use Rattle.changes.proofs.Keep.{keep-length}
 use Rattle.changes.proofs.Asked.{changed-asked}
 use Rattle.changes.proofs.Room.{asked-fits}
-use Rattle.cascade.specs.Calls.{rulesAt, winnerIn, changedIn, changedVerdict}
-use Rattle.cascade.proofs.Listed.{rules-are, rules-rise}
+use Rattle.looking.specs.Calls.{rulesAt, winnerIn}
+use Rattle.looking.proofs.Listed.{rules-are, rules-rise}
+use Rattle.cascade.specs.Calls.{changedIn, changedVerdict}
 use Rattle.covered.specs.Covered.{Covered}
 use Rattle.covered.specs.Rooms.{Proper}
 use Rattle.covered.proofs.Accepted.{enter-accepts}

@@ -10,7 +10,8 @@ use Rattle.typed.specs.Typed.{rowType, rowPart, classesFrom, pseudosFrom, owned
 use Rattle.table.specs.Tables.{Table, stampIn}
 use Rattle.table.specs.Entering.{childOf, entered}
 use Rattle.table.specs.Calls.{stateVerdict, enterVerdict}
-use Rattle.cascade.specs.Calls.{rulesAt, winnerIn, changedIn, changedVerdict}
+use Rattle.looking.specs.Calls.{rulesAt, winnerIn}
+use Rattle.cascade.specs.Calls.{changedIn, changedVerdict}
 use Rattle.records.specs.declared.Record.{Record}
 use Rattle.records.specs.Rows.{emptyRow, withItem, itemOver}
 use Rattle.replies.specs.Lines.{refusedLine, stateLine, changedLine, winnerLine}

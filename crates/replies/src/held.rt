@@ -2,11 +2,11 @@
 use crate::Replied;
 use crate::say;
 use cascade::held::changed_properties;
-use cascade::held::winning_source;
 use entering::held::enter_subject;
 use lent::words::copy_into;
 use lent::words::widen_into;
 use lent::words::word;
+use looking::held::winning_source;
 use matcher::held::matching_rules;
 use records::Record;
 use records::held::half;

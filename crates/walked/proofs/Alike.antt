@@ -22,7 +22,8 @@ use Rattle.table.specs.Tables.{Table, table, selectorsOf, stampIn, rankingIn, s
 use Rattle.table.specs.Entering.{built, entered, childOf, cachedIn, nextState, numberIn, roomFor, roomIn, holding, kept, lacksRoom}
 use Rattle.table.specs.Calls.{broken, notAState, stateVerdict, enterVerdict}
 use Rattle.table.proofs.Shaped.{unshaped}
-use Rattle.cascade.specs.Calls.{rulesAt, pairVerdict}
+use Rattle.looking.specs.Calls.{rulesAt}
+use Rattle.cascade.specs.Calls.{pairVerdict}
 use Rattle.covered.specs.Covered.{Enters}
 use Rattle.covered.proofs.Known.{below}
 use Rattle.covered.proofs.Sound.{Sound, sound-shaped}

@@ -20,8 +20,9 @@ use Rattle.changes.specs.Asked.{asked, differing}
 use Rattle.changes.proofs.Keep.{keep-length}
 use Rattle.changes.proofs.Asked.{changed-asked}
 use Rattle.changes.proofs.Room.{asked-fits}
-use Rattle.cascade.specs.Calls.{rulesAt, changedIn, pairChecks, pairVerdict, changedVerdict}
-use Rattle.cascade.proofs.Listed.{rules-are, rules-rise}
+use Rattle.looking.specs.Calls.{rulesAt}
+use Rattle.looking.proofs.Listed.{rules-are, rules-rise}
+use Rattle.cascade.specs.Calls.{changedIn, pairChecks, pairVerdict, changedVerdict}
 use Rattle.cascade.proofs.Verdicts.{pair-passed}
 use Rattle.covered.specs.Covered.{Covered}
 use Rattle.covered.proofs.Reached.{covered-sheet, covered-shaped}

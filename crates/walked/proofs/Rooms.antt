@@ -12,8 +12,10 @@ use Rattle.table.specs.Calls.{buildVerdict}
 use Rattle.table.proofs.Shaped.{unshaped}
 use Rattle.winners.specs.Winners.{winnerOf}
 use Rattle.changes.specs.Changes.{changedOf}
-use Rattle.cascade.specs.Calls.{rulesAt, winnerIn, changedIn, pairVerdict}
-use Rattle.cascade.proofs.Verdicts.{state-passed, pair-passed}
+use Rattle.looking.specs.Calls.{rulesAt, winnerIn}
+use Rattle.looking.proofs.Verdicts.{state-passed}
+use Rattle.cascade.specs.Calls.{changedIn, pairVerdict}
+use Rattle.cascade.proofs.Verdicts.{pair-passed}
 use Rattle.covered.proofs.Sound.{sound-shaped}
 use Rattle.covered.proofs.Reached.{builds-sound}
 use Rattle.records.specs.declared.Record.{Record}

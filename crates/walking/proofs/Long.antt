@@ -13,7 +13,8 @@ use Rattle.sheet.specs.Sheets.{styleAt, ruleAt}
 use Rattle.winners.specs.Winners.{Place, style, rule}
 use Rattle.table.specs.Tables.{Table}
 use Rattle.table.specs.Calls.{broken, notAState}
-use Rattle.cascade.specs.Calls.{rulesAt, winnerIn, changedIn, changedVerdict}
+use Rattle.looking.specs.Calls.{rulesAt, winnerIn}
+use Rattle.cascade.specs.Calls.{changedIn, changedVerdict}
 use Rattle.records.specs.declared.Record.{Record}
 use Rattle.replies.specs.Lines.{decimal, spaced, listed, REFUSED, AT, STATE, MATCHED, CHANGED, WINNER, DIRECT, RULE, SOURCE, END, refusedLine, stateLine, changedLine, sourceText, winnerLine}
 use Rattle.replies.specs.Walking.{Walking, walking, printed, stampOf, itemFault, enteringVerdict, childIn, enteredIn, changedRoom, changingVerdict, winningVerdict, walkingVerdict, acceptedLine, walkingLine}

@@ -1,13 +1,8 @@
 // Winners, changes and channels of a table's states.
 use crate::half;
 use cascade::Channels;
-use cascade::Winning;
 use cascade::change::changed_channels;
 use cascade::change::changed_properties;
-use cascade::look::get_entry_ref;
-use cascade::look::resource_key;
-use cascade::look::value_kind;
-use cascade::look::winning_source_for_id;
 use cascade::resources::resource_dependent_properties;
 use channels::ChannelSet;
 use channels::Lowest;
@@ -15,6 +10,11 @@ use items::say;
 use lent::held::rest;
 use lent::words::word;
 use lines::text;
+use looking::Winning;
+use looking::look::get_entry_ref;
+use looking::look::resource_key;
+use looking::look::value_kind;
+use looking::look::winning_source_for_id;
 use matcher::MatchState;
 use style::ResourceKey;
 use style::StyleValueKind;

@@ -1,5 +1,6 @@
 use borrow.Author.Needs.{needs}
-use Rattle.cascade.proofs.Listed.{ranking-fits, rules-are, rules-rise, changed-held}
+use Rattle.looking.proofs.Listed.{ranking-fits, rules-are, rules-rise}
+use Rattle.cascade.proofs.Listed.{changed-held}
 use Rattle.cascade.proofs.held.changed_properties.Statement.{statement}
 use Rattle.cascade.proofs.held.changed_properties.Tie as tie
 
