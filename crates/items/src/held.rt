@@ -69,6 +69,9 @@ fn find(input: &mut [u8], at: usize, have: usize) -> Stretch
     }
 }
 
+// The bytes of the buffer. A whole item is shorter.
+pub const SIZE: usize = 262144;
+
 // An item: where it begins, its first word, how many words follow, where the next begins, and how many bytes are at hand. What begins where the next
 // does is no item, and the input is at its end.
 pub struct Item {
@@ -88,8 +91,7 @@ pub const NONE: Item = Item {
     have: 0,
 };
 
-// The item after `item`, and the words that follow in it; reads on where it is not at hand.
-pub fn take(input: &mut [u8], words: &mut [u32], item: Item) -> Item
+fn take(input: &mut [u8], words: &mut [u32], item: Item) -> Item
     requires { ⌜ (item .next ≤ item .have) × (item .have ≤ length (now input)) ⌝ }
     ensures { λ r. ⌜ (r .count ≤ length (now (words .entry))) × (r .next ≤ r .have) × (r .have ≤ length (now (input .entry))) ⌝ }
     ensures { λ r. ⌜ Taken (now (input .exit)) (r .from) (r .next) (r .have) (r .op) (now (words .entry)) (r .count) (now (words .exit)) ⌝ }
@@ -107,12 +109,28 @@ pub fn take(input: &mut [u8], words: &mut [u32], item: Item) -> Item
     }
 }
 
-// Writes out what is used of the buffer, and the last line where the first `have` bytes are no whole item; whether nothing more is to be read.
-pub fn last(input: &[u8], have: usize, out: &mut [u8], used: usize) -> bool
+// The item after `item`, and the words that follow in it; reads on where it is not at hand.
+pub fn next(input: &mut [u8; SIZE], words: &mut [u32; MOST], item: Item) -> Item
+    requires { ⌜ (item .next ≤ item .have) × (item .have ≤ 262144) ⌝ }
+    ensures { λ r. ⌜ (r .next ≤ r .have) × (r .have ≤ 262144) ⌝ }
+    ensures { λ r. ⌜ Taken (now (input .exit)) (r .from) (r .next) (r .have) (r .op) (now (words .entry)) (r .count) (now (words .exit)) ⌝ }
+{
+    take(input, words, item)
+}
+
+fn last(input: &[u8], have: usize, out: &mut [u8], used: usize) -> bool
     requires { ⌜ have ≤ length (now input) ⌝ }
     ensures { λ r. ⌜ Ends (tooLong (take have (now (input .entry)))) (ltb have (length (now (input .entry)))) (take have (now (input .entry))) (now (out .entry)) r (now (out .exit)) ⌝ }
 {
     send(out, used, 0);
     let rest = &input[..have];
     ends(rest, is_too_long(rest), have < input.len(), out)
+}
+
+// Writes out what is used of `out`, and the last line, where the `have` bytes at hand are no whole item; whether nothing more is to be read.
+pub fn finish(input: &[u8; SIZE], have: usize, out: &mut [u8; 65536], used: usize) -> bool
+    requires { ⌜ have ≤ 262144 ⌝ }
+    ensures { λ r. ⌜ Ends (tooLong (take have (now (input .entry)))) (ltb have (length (now (input .entry)))) (take have (now (input .entry))) (now (out .entry)) r (now (out .exit)) ⌝ }
+{
+    last(input, have, out, used)
 }
