@@ -2,8 +2,6 @@
 use crate::look;
 use crate::push;
 use crate::tell;
-use items::MOST;
-use items::body;
 use items::room;
 use items::say;
 use lent::words::put;
@@ -65,16 +63,14 @@ fn on_sheets(
 }
 
 pub(crate) fn item(
-    item: &[u8],
+    op: u32,
+    body: &[u32],
     first: &mut [u32],
     second: &mut [u32],
     rooms: &mut [u32],
     out: &mut [u8],
     at: usize,
 ) -> usize {
-    let mut words = [0u32; MOST];
-    let n = body(item, &mut words);
-    let op = lines::word(item, 0);
-    set_room(op, &words[..n], rooms);
-    on_sheets(op, &words[..n], first, second, rooms, out, at)
+    set_room(op, body, rooms);
+    on_sheets(op, body, first, second, rooms, out, at)
 }

@@ -5,6 +5,8 @@ use crate::lists::halves;
 use crate::lists::list;
 use crate::tell::entry_of;
 use items::MOST;
+use items::said;
+use items::said::Said;
 use items::say;
 use lent::held::part;
 use lent::words::put;
@@ -26,55 +28,79 @@ const LOOK: Lists = Lists {
     begin: 5,
 };
 
-fn contains(out: &mut [u8], at: usize, answer: Containing) -> usize {
+fn of_contains(answer: Containing) -> Said {
     match answer {
-        Containing::Yes => say::two(out, at, b"la", 0, 1),
-        Containing::No => say::two(out, at, b"la", 0, 0),
-        Containing::Refused(refusal) => say::refused(out, at, b"la", refusal),
+        Containing::Yes => said::two(0, 1),
+        Containing::No => said::two(0, 0),
+        Containing::Refused(refusal) => said::refused(refusal),
+    }
+}
+
+fn contains(out: &mut [u8], at: usize, answer: Containing) -> usize {
+    said::line(out, at, b"la", of_contains(answer))
+}
+
+fn of_position(answer: Place) -> Said {
+    match answer {
+        Place::At(place) => said::two(0, place),
+        Place::Absent => said::one(0),
+        Place::Refused(refusal) => said::refused(refusal),
     }
 }
 
 fn position(out: &mut [u8], at: usize, answer: Place) -> usize {
+    said::line(out, at, b"lb", of_position(answer))
+}
+
+fn of_value_kind(answer: StyleValueKind) -> Said {
     match answer {
-        Place::At(place) => say::two(out, at, b"lb", 0, place),
-        Place::Absent => say::one(out, at, b"lb", 0),
-        Place::Refused(refusal) => say::refused(out, at, b"lb", refusal),
+        StyleValueKind::Value(x) => said::three(0, 0, x),
+        StyleValueKind::Resource(x) => said::three(0, 1, x),
+        StyleValueKind::Expr(x) => said::three(0, 2, x),
+        StyleValueKind::ResourceExpr(x) => said::three(0, 3, x),
+        StyleValueKind::Absent => said::one(0),
+        StyleValueKind::Refused(refusal) => said::refused(refusal),
     }
 }
 
 fn value_kind(out: &mut [u8], at: usize, answer: StyleValueKind) -> usize {
+    said::line(out, at, b"lc", of_value_kind(answer))
+}
+
+fn of_value_ref(answer: StyleValueRef) -> Said {
     match answer {
-        StyleValueKind::Value(x) => say::three(out, at, b"lc", 0, 0, x),
-        StyleValueKind::Resource(x) => say::three(out, at, b"lc", 0, 1, x),
-        StyleValueKind::Expr(x) => say::three(out, at, b"lc", 0, 2, x),
-        StyleValueKind::ResourceExpr(x) => say::three(out, at, b"lc", 0, 3, x),
-        StyleValueKind::Absent => say::one(out, at, b"lc", 0),
-        StyleValueKind::Refused(refusal) => say::refused(out, at, b"lc", refusal),
+        StyleValueRef::Value(x) => said::three(0, 0, x),
+        StyleValueRef::Resource(x) => said::three(0, 1, x),
+        StyleValueRef::Nothing => said::one(0),
+        StyleValueRef::Refused(refusal) => said::refused(refusal),
     }
 }
 
 fn value_ref(out: &mut [u8], at: usize, answer: StyleValueRef) -> usize {
+    said::line(out, at, b"ld", of_value_ref(answer))
+}
+
+fn of_resource_key(answer: ResourceKey) -> Said {
     match answer {
-        StyleValueRef::Value(x) => say::three(out, at, b"ld", 0, 0, x),
-        StyleValueRef::Resource(x) => say::three(out, at, b"ld", 0, 1, x),
-        StyleValueRef::Nothing => say::one(out, at, b"ld", 0),
-        StyleValueRef::Refused(refusal) => say::refused(out, at, b"ld", refusal),
+        ResourceKey::Key(x) => said::two(0, x),
+        ResourceKey::Nothing => said::one(0),
+        ResourceKey::Refused(refusal) => said::refused(refusal),
     }
 }
 
 fn resource_key(out: &mut [u8], at: usize, answer: ResourceKey) -> usize {
+    said::line(out, at, b"le", of_resource_key(answer))
+}
+
+fn of_len(answer: Length) -> Said {
     match answer {
-        ResourceKey::Key(x) => say::two(out, at, b"le", 0, x),
-        ResourceKey::Nothing => say::one(out, at, b"le", 0),
-        ResourceKey::Refused(refusal) => say::refused(out, at, b"le", refusal),
+        Length::Entries(n) => said::two(0, n),
+        Length::Refused(refusal) => said::refused(refusal),
     }
 }
 
 fn len(out: &mut [u8], at: usize, answer: Length) -> usize {
-    match answer {
-        Length::Entries(n) => say::two(out, at, b"lf", 0, n),
-        Length::Refused(refusal) => say::refused(out, at, b"lf", refusal),
-    }
+    said::line(out, at, b"lf", of_len(answer))
 }
 
 // At most 32.

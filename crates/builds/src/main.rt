@@ -1,10 +1,11 @@
 // Answers cases of sheets from standard input, in the words of the judge (oracle/), so that the two can be compared.
 // The input is items of little-endian words: what is to be done, how many words follow, and those words. Two sheets stand ready.
-use screen::ends;
-use screen::held::fill;
-use screen::held::shift;
-ghost use Prim.Native.Nat.{_≤_};
-ghost use lib.ListN.{length};
+use items::MOST;
+use items::held::NONE;
+use items::held::SIZE;
+use items::held::finish;
+use items::held::next;
+use lent::held::part;
 
 mod answer;
 mod lists;
@@ -12,94 +13,48 @@ mod look;
 mod push;
 mod tell;
 
-// Answers the items that are whole, and writes the answers out; where the first other begins.
-fn answer_whole(
-    input: &[u8],
-    first: &mut [u32],
-    second: &mut [u32],
-    rooms: &mut [u32],
-    out: &mut [u8],
-) -> usize
-    ensures { λ r. ⌜ r ≤ length (now (input .entry)) ⌝ }
-{
-    let mut used = 0;
-    let mut at = 0;
-    while at < input.len() {
-        let end = items::held::end(input, at);
-        if end <= at {
-            screen::send(out, used, 0);
-            return at;
-        }
-        used = answer::item(&input[at..end], first, second, rooms, out, used);
-        at = end;
-    }
-    screen::send(out, used, 0);
-    at
-}
-
-// The same of the first n bytes.
-fn answer_first(
-    input: &[u8],
+// Answers the item whose words are the first n.
+fn answer_item(
+    op: u32,
+    words: &[u32; MOST],
     n: usize,
-    first: &mut [u32],
-    second: &mut [u32],
-    rooms: &mut [u32],
-    out: &mut [u8],
-) -> usize
-    requires { ⌜ n ≤ length (now input) ⌝ }
-    ensures { λ r. ⌜ r ≤ n ⌝ }
-{
-    answer_whole(&input[..n], first, second, rooms, out)
-}
-
-// Reads on, and answers what is whole then; how many bytes are left at hand, or the buffer's size where the program is to end.
-fn turn(
-    input: &mut [u8],
-    have: usize,
-    first: &mut [u32],
-    second: &mut [u32],
-    rooms: &mut [u32],
-    out: &mut [u8],
-) -> usize
-    requires { ⌜ have ≤ length (now input) ⌝ }
-    ensures { λ r. ⌜ r ≤ length (now (input .entry)) ⌝ }
-{
-    let size = input.len();
-    let n = fill(input, have);
-    let at = answer_first(input, n, first, second, rooms, out);
-    let rest = &input[at..n];
-    if ends(rest, items::is_too_long(rest), n < size, out) {
-        return size;
-    }
-    shift(input, at)
-}
-
-// A proved loop has to end, and nothing says that the input does: the turns are counted down, from a number that no run uses up.
-// A whole item is shorter than the buffer, so after a turn there is room.
-fn answer_all(
-    input: &mut [u8],
-    first: &mut [u32],
-    second: &mut [u32],
-    rooms: &mut [u32],
-    out: &mut [u8],
-) {
-    let mut have = 0;
-    let mut turns = u64::MAX;
-    while turns > 0 {
-        have = turn(input, have, first, second, rooms, out);
-        if input.len() <= have {
-            return;
-        }
-        turns -= 1;
-    }
+    first: &mut [u32; 67020],
+    second: &mut [u32; 67020],
+    rooms: &mut [u32; 2],
+    out: &mut [u8; 65536],
+    used: usize,
+) -> usize {
+    answer::item(op, part(words, 0, n), first, second, rooms, out, used)
 }
 
 // The sheets, and how many words of each are lent.
+// A proved loop has to end, and nothing says that the input does: the turns are counted down, from a number that no run uses up.
 fn main() {
-    let mut input = [0u8; 262144];
+    let mut input = [0u8; SIZE];
+    let mut words = [0u32; MOST];
     let mut first = [0u32; 67020];
     let mut second = [0u32; 67020];
     let mut rooms = [0u32; 2];
     let mut out = [0u8; 65536];
-    answer_all(&mut input, &mut first, &mut second, &mut rooms, &mut out);
+    let mut used = 0;
+    let mut item = NONE;
+    let mut turns = u64::MAX;
+    while turns > 0 {
+        item = next(&mut input, &mut words, item);
+        if item.next <= item.from {
+            finish(&input, item.have, &mut out, used);
+            return;
+        }
+        used = answer_item(
+            item.op,
+            &words,
+            item.count,
+            &mut first,
+            &mut second,
+            &mut rooms,
+            &mut out,
+            used,
+        );
+        turns -= 1;
+    }
 }

@@ -1,10 +1,11 @@
 -- The ways through the functions, as laws. Assumes nothing.
 use mathlib.Core.Path.{_≡_, refl}
-use mathlib.Core.Bool.{false}
+use Rattle.screen.specs.Ends.{Ends}
+use mathlib.Core.Bool.{Bool, false}
 use mathlib.Core.List.{List}
 use Prim.Native.Nat.{ℕ, _+_, _-_, _*_, _≤_, _<_}
 use native.Mathlib.Omega.{arith}
-use lib.ListN.{length, take, drop, drop-of-length-le}
+use lib.ListN.{length, take, drop, drop-of-length-le, length-take}
 use lib.Dec.{ltb}
 use borrow.Author.Tests.{le-leb, lt-leb}
 use Rattle.lent.proofs.Pool.{rest-all}
@@ -53,3 +54,17 @@ body-short item into h = rw (drop-of-length-le item {i = 8} (omega arith)) recor
 
 pub body-is : (item into : List ℕ) (r : ℕ) (after : List ℕ) → Read (take (length item - 8) (drop 8 item)) into r after → Read (drop 8 item) into r after
 body-is item into r after u = rw (← rest-all item 8) u
+
+-- ---- the first bytes
+
+module _ (bytes : List ℕ) (have r : ℕ) where
+  pub of-taken : r ≤ length (take have bytes) → r ≤ have
+  of-taken h = omega (arith, h, length-take have bytes)
+
+  pub to-taken : r ≤ have → have ≤ length bytes → r ≤ length (take have bytes)
+  to-taken h l = omega (arith, h, l, length-take have bytes)
+
+-- ---- the last line
+
+pub ends-by : (long end r : Bool) (rest before after : List ℕ) → Ends long end rest before r after → long ≡ tooLong rest → Ends (tooLong rest) end rest before r after
+ends-by long end r rest before after e f = rw f at e

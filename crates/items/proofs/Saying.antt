@@ -1,10 +1,11 @@
 -- The ways through the lines' functions, as laws. Assumes nothing.
-use mathlib.Core.Path.{_≡_, refl, _∙_}
+use mathlib.Core.Path.{_≡_, refl, ap, _∙_}
 use mathlib.Core.Bool.{cond}
 use mathlib.Core.List.{List, [], _∷_}
-use Prim.Native.Nat.{ℕ, _+_, _≤_, _<_}
+use Prim.Native.Nat.{ℕ, _+_, _-_, _≤_, _<_}
 use native.Mathlib.Numerals.{add-one}
-use lib.ListN.{length, getD, drop, drop-of-length-le}
+use native.Mathlib.Omega.{arith}
+use lib.ListN.{length, getD, take, drop, drop-of-length-le}
 use lib.Seq.{drop-cons}
 use lib.Dec.{leb}
 use Rattle.screen.specs.Labelled.{Labelled}
@@ -15,6 +16,15 @@ said-number n w before at used r after f l e = record { used = used; laid = rw (
 
 pub said-equal : (tag : List ℕ) (n m : ℕ) (before : List ℕ) (at r : ℕ) (after : List ℕ) → n ≡ m → SaidLine tag (n ∷ []) before at r after → SaidLine tag (m ∷ []) before at r after
 said-equal tag n m before at r after e s = rw (← e) s
+
+-- ---- numbers by value
+
+pub first-equal : (l : List ℕ) (n m : ℕ) → l ≡ n ∷ 0 ∷ 0 ∷ 0 ∷ [] → n ≡ m → l ≡ m ∷ 0 ∷ 0 ∷ 0 ∷ []
+first-equal l n m e f = e ∙ ap (λ (k : ℕ). k ∷ 0 ∷ 0 ∷ 0 ∷ []) f
+
+pub said-taken : (tag list part : List ℕ) (count : ℕ) (before : List ℕ) (at r : ℕ) (after : List ℕ) → part ≡ take (count - 0) (drop 0 list) → SaidLine tag part before at r after
+    → SaidLine tag (take count list) before at r after
+said-taken tag list part count before at r after e s = let z : count - 0 ≡ count = omega arith in let f : part ≡ take count list = e ∙ ap (λ (k : ℕ). take k list) z in rw (← f) s
 
 -- ---- numbers: what is said of the rest is said of all
 

@@ -1,10 +1,11 @@
 -- Items of input: 4 bytes that say what is to be done, 4 that say how many words follow, and those words. Assumes nothing.
+use mathlib.Core.Path.{_≡_}
 use mathlib.Core.Bool.{Bool, cond, _&&_}
 use mathlib.Core.List.{List}
 use Prim.Native.Nat.{ℕ, _+_, _-_, _*_}
-use lib.ListN.{length}
+use lib.ListN.{length, take, drop}
 use lib.Dec.{leb, ltb}
-use Rattle.lines.specs.Text.{wordAt}
+use Rattle.lines.specs.Text.{wordAt, Read}
 
 -- most words that follow
 abbrev pub MOST : ℕ
@@ -25,3 +26,13 @@ wholeAt bytes at = leb 8 (length bytes - at) && (leb (wordAt bytes (at + 4)) MOS
 -- where it ends; `at` itself where it is cut short or too long
 unfoldable pub endOf : List ℕ → ℕ → ℕ
 endOf bytes at = cond (wholeAt bytes at) (at + sizeAt bytes at) at
+
+-- the bytes from one place to another
+abbrev pub between : List ℕ → ℕ → ℕ → List ℕ
+between bytes from to = take (to - from) (drop from bytes)
+
+-- the item that begins at `from` of the first `have` bytes: where it ends, its first word, and the words that follow, laid into a list
+pub record Taken (bytes : List ℕ) (from next have op : ℕ) (before : List ℕ) (count : ℕ) (after : List ℕ) : Type 0 where
+  pub ends : next ≡ endOf (take have bytes) from
+  pub first : op ≡ wordAt (between bytes from next) 0
+  pub rest : Read (drop 8 (between bytes from next)) before count after

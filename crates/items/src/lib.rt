@@ -9,6 +9,7 @@ ghost use Rattle.lines.specs.Text.{Read};
 ghost use Rattle.items.specs.Items.{tooLong};
 
 pub mod held;
+pub mod said;
 pub mod say;
 
 // Most words that follow.

@@ -2,8 +2,8 @@
 // A case is three sections of little-endian words, and each section a count, a number, and as many rows as the number says:
 // the steps' rows, the combinators' words, the subjects' rows. A count is what is given, a number is what is lent.
 use screen::ends;
-use screen::held::fill;
-use screen::held::shift;
+use screen::held::refill;
+use screen::send;
 ghost use Prim.Native.Nat.{_≤_};
 ghost use lib.ListN.{length};
 
@@ -11,74 +11,74 @@ mod answer;
 mod say;
 mod section;
 
-// Answers the cases that are whole, and writes the answers out; where the first other begins.
-fn answer_whole(input: &[u8], out: &mut [u8]) -> usize
-    ensures { λ r. ⌜ r ≤ length (now (input .entry)) ⌝ }
+use section::Case;
+
+// The case that begins at `at`. Where it is not whole it is moved to the front, and more is read; no bytes if it is not whole then.
+fn find(input: &mut [u8; 131072], at: usize, have: usize) -> Case
+    requires { ⌜ (at ≤ have) × (have ≤ 131072) ⌝ }
+    ensures { λ r. ⌜ (r .from ≤ r .steps) × (r .steps ≤ r .codes) × (r .codes ≤ r .path) × (r .path ≤ r .have) × (r .have ≤ 131072) ⌝ }
 {
-    let mut used = 0;
-    let mut at = 0;
-    while at < input.len() {
-        let steps = section::end(input, at, section::STEP_BYTES);
-        let codes = section::end(input, steps, section::CODE_BYTES);
-        let path = section::end(input, codes, section::SUBJECT_BYTES);
-        let end = section::whole(at, steps, codes, path);
-        if end <= at {
-            screen::send(out, used, 0);
-            return at;
-        }
-        used = answer::answer(
-            &input[at..steps],
-            &input[steps..codes],
-            &input[codes..path],
-            out,
-            used,
-        );
-        used = screen::send(out, used, 16384);
-        at = end;
+    let case = section::first_case(input, at, have);
+    if case.from < case.path {
+        return case;
     }
-    screen::send(out, used, 0);
-    at
+    let n = refill(input, at, have);
+    section::first_case(input, 0, n)
 }
 
-// The same of the first n bytes.
-fn answer_first(input: &[u8], n: usize, out: &mut [u8]) -> usize
-    requires { ⌜ n ≤ length (now input) ⌝ }
-    ensures { λ r. ⌜ r ≤ n ⌝ }
+// Answers a case; how much of the buffer is used then.
+fn answer_bytes(input: &[u8], case: Case, out: &mut [u8], at: usize) -> usize
+    requires { ⌜ (case .from ≤ case .steps) × (case .steps ≤ case .codes) × (case .codes ≤ case .path) × (case .path ≤ length (now input)) ⌝ }
 {
-    answer_whole(&input[..n], out)
+    let from = case.from;
+    let steps = case.steps;
+    let codes = case.codes;
+    let path = case.path;
+    let used = answer::answer(
+        &input[from..steps],
+        &input[steps..codes],
+        &input[codes..path],
+        out,
+        at,
+    );
+    send(out, used, 16384)
 }
 
-// Reads on, and answers what is whole then; how many bytes are left at hand, or the buffer's size where the program is to end.
-fn turn(input: &mut [u8], have: usize, out: &mut [u8]) -> usize
+fn answer_case(input: &[u8; 131072], case: Case, out: &mut [u8; 65536], at: usize) -> usize
+    requires { ⌜ (case .from ≤ case .steps) × (case .steps ≤ case .codes) × (case .codes ≤ case .path) × (case .path ≤ 131072) ⌝ }
+{
+    answer_bytes(input, case, out, at)
+}
+
+fn last_line(input: &[u8], have: usize, out: &mut [u8])
     requires { ⌜ have ≤ length (now input) ⌝ }
-    ensures { λ r. ⌜ r ≤ length (now (input .entry)) ⌝ }
 {
-    let size = input.len();
-    let n = fill(input, have);
-    let at = answer_first(input, n, out);
-    let rest = &input[at..n];
-    if ends(rest, section::is_too_long(rest), n < size, out) {
-        return size;
-    }
-    shift(input, at)
+    let rest = &input[..have];
+    ends(rest, section::is_too_long(rest), have < input.len(), out);
+}
+
+// Writes out what is left, and the last line.
+fn last(input: &[u8; 131072], have: usize, out: &mut [u8; 65536], used: usize)
+    requires { ⌜ have ≤ 131072 ⌝ }
+{
+    send(out, used, 0);
+    last_line(input, have, out);
 }
 
 // A proved loop has to end, and nothing says that the input does: the turns are counted down, from a number that no run uses up.
-// A whole case is shorter than the buffer, so after a turn there is room.
-fn answer_all(input: &mut [u8], out: &mut [u8]) {
-    let mut have = 0;
-    let mut turns = u64::MAX;
-    while turns > 0 {
-        have = turn(input, have, out);
-        if input.len() <= have {
-            return;
-        }
-        turns -= 1;
-    }
-}
-
 fn main() {
     let mut input = [0u8; 131072];
     let mut out = [0u8; 65536];
-    answer_all(&mut input, &mut out);
+    let mut used = 0;
+    let mut case = section::NONE;
+    let mut turns = u64::MAX;
+    while turns > 0 {
+        case = find(&mut input, case.path, case.have);
+        if case.path <= case.from {
+            last(&input, case.have, &mut out, used);
+            return;
+        }
+        used = answer_case(&input, case, &mut out, used);
+        turns -= 1;
+    }
 }

@@ -1,6 +1,7 @@
 // Where a case's sections end.
 use lent::words::wide;
 use lines::word;
+ghost use mathlib.Core.Path.{_≡_};
 ghost use Prim.Native.Nat.{_≤_};
 ghost use lib.ListN.{length};
 
@@ -54,15 +55,68 @@ pub(crate) fn is_too_long(input: &[u8]) -> bool {
     is_long(input, codes)
 }
 
-// The end of the third of three sections, each of which begins where the one before ends; 0 where one of them has no end.
-pub(crate) fn whole(at: usize, first: usize, second: usize, third: usize) -> usize
-    ensures { λ r. ⌜ r ≤ third ⌝ }
+// Where a case begins, where each of its sections ends, and how many bytes are at hand.
+pub(crate) struct Case {
+    pub(crate) from: usize,
+    pub(crate) steps: usize,
+    pub(crate) codes: usize,
+    pub(crate) path: usize,
+    pub(crate) have: usize,
+}
+
+// Before the first.
+pub(crate) const NONE: Case = Case {
+    from: 0,
+    steps: 0,
+    codes: 0,
+    path: 0,
+    have: 0,
+};
+
+// No bytes.
+fn nothing(at: usize, have: usize) -> Case
+    ensures { λ r. ⌜ (r .from ≡ at) × (r .steps ≡ at) × (r .codes ≡ at) × (r .path ≡ at) × (r .have ≡ have) ⌝ }
 {
-    if first <= at {
-        return 0;
+    Case {
+        from: at,
+        steps: at,
+        codes: at,
+        path: at,
+        have: have,
     }
-    if second <= first {
-        return 0;
+}
+
+// The case that begins at `at` of the bytes; no bytes where it is not whole.
+fn within(bytes: &[u8], at: usize) -> Case
+    requires { ⌜ at ≤ length (now bytes) ⌝ }
+    ensures { λ r. ⌜ (r .from ≤ r .steps) × (r .steps ≤ r .codes) × (r .codes ≤ r .path) × (r .path ≤ r .have) × (r .have ≡ length (now (bytes .entry))) ⌝ }
+{
+    let have = bytes.len();
+    let steps = end(bytes, at, STEP_BYTES);
+    if steps <= at {
+        return nothing(at, have);
     }
-    if third <= second { 0 } else { third }
+    let codes = end(bytes, steps, CODE_BYTES);
+    if codes <= steps {
+        return nothing(at, have);
+    }
+    let path = end(bytes, codes, SUBJECT_BYTES);
+    if path <= codes {
+        return nothing(at, have);
+    }
+    Case {
+        from: at,
+        steps: steps,
+        codes: codes,
+        path: path,
+        have: have,
+    }
+}
+
+// The same of the first `have` bytes.
+pub(crate) fn first_case(input: &[u8], at: usize, have: usize) -> Case
+    requires { ⌜ (at ≤ have) × (have ≤ length (now input)) ⌝ }
+    ensures { λ r. ⌜ (r .from ≤ r .steps) × (r .steps ≤ r .codes) × (r .codes ≤ r .path) × (r .path ≤ r .have) × (r .have ≤ length (now (input .entry))) ⌝ }
+{
+    within(&input[..have], at)
 }

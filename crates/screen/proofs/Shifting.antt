@@ -1,11 +1,11 @@
 -- Bytes moved to the front one by one. Assumes nothing.
-use mathlib.Core.Path.{_≡_, refl, sym, _∙_}
+use mathlib.Core.Path.{_≡_, refl, sym, ap, _∙_}
 use mathlib.Core.List.{List}
 use Prim.Native.Nat.{ℕ, _+_, _-_, _≤_, _<_}
 use native.Mathlib.Nat.{zero-add}
 use native.Mathlib.Omega.{arith}
-use lib.ListN.{length, getD, drop, set, length-set, length-drop}
-use lib.Seq.{sets, getD-drop, getD-set-other}
+use lib.ListN.{length, getD, take, drop, set, length-set, length-drop}
+use lib.Seq.{sets, sets-eq, take-append-le, getD-drop, getD-set-other}
 use Rattle.lent.proofs.Copying.{Copying, copy-start, copy-one, copy-end}
 
 -- the first i of those from `at` on are moved, and what stands from i on is as it was
@@ -39,3 +39,12 @@ module _ {b : List ℕ} {at left i : ℕ} {m : List ℕ} (s : Moving b at left i
 
   pub moved-end : left ≤ i → (left ≡ length b - at) × (m ≡ sets b 0 (drop at b))
   moved-end h = let (w, e, z, v) = s in (omega arith, copy-end (v .copying) (omega (arith, left-are)))
+
+-- what was moved is at the front
+front-moved : (b : List ℕ) (at n : ℕ) → at + n ≤ length b → take n (sets b 0 (drop at b)) ≡ take n (drop at b)
+front-moved b at n h =
+    ap (λ l. take n l) (sets-eq (drop at b) b 0 (omega (arith, length-drop at b))) ∙ take-append-le n (drop at b) _ (omega (arith, length-drop at b))
+
+pub refilled : (b m e : List ℕ) (at have : ℕ) → at ≤ have → have ≤ length b → m ≡ sets b 0 (drop at b) → take (have - at) e ≡ take (have - at) m
+    → take (have - at) e ≡ take (have - at) (drop at b)
+refilled b m e at have l k s t = t ∙ ap (λ x. take (have - at) x) s ∙ front-moved b at (have - at) (omega arith)

@@ -26,3 +26,12 @@ pub fn fill(input: &mut [u8], have: usize) -> usize
 {
     have + io::read_full(STDIN_FILENO, &mut input[have..])
 }
+
+// Moves the bytes from `at` on to the front, of the `have` at hand, and reads on after them; how many are at hand then.
+pub fn refill(input: &mut [u8], at: usize, have: usize) -> usize
+    requires { ⌜ (at ≤ have) × (have ≤ length (now input)) ⌝ }
+    ensures { λ r. ⌜ (have - at ≤ r) × (r ≤ length (now (input .entry))) × (take (have - at) (now (input .exit)) ≡ take (have - at) (drop at (now (input .entry)))) ⌝ }
+{
+    shift(input, at);
+    fill(input, have - at)
+}

@@ -3,8 +3,6 @@ use crate::calls;
 use crate::sets;
 use crate::store;
 use crate::tell;
-use items::MOST;
-use items::body;
 use items::room;
 use items::say;
 
@@ -62,7 +60,7 @@ fn whole(
     }
 }
 
-fn by_op(
+pub(crate) fn by_op(
     op: u32,
     body: &[u32],
     sheet: &mut [u32],
@@ -103,33 +101,4 @@ fn by_op(
             at,
         ),
     }
-}
-
-pub(crate) fn item(
-    item: &[u8],
-    sheet: &mut [u32],
-    head: &mut [u32; 8],
-    states: &mut [u32],
-    cursors: &mut [u32],
-    matched: &mut [u32],
-    transitions: &mut [u32],
-    rooms: &mut [u32],
-    out: &mut [u8],
-    at: usize,
-) -> usize {
-    let mut words = [0u32; MOST];
-    let n = body(item, &mut words);
-    by_op(
-        lines::word(item, 0),
-        &words[..n],
-        sheet,
-        head,
-        states,
-        cursors,
-        matched,
-        transitions,
-        rooms,
-        out,
-        at,
-    )
 }

@@ -6,6 +6,8 @@ use cascade::change::changed_properties;
 use cascade::resources::resource_dependent_properties;
 use channels::ChannelSet;
 use channels::Lowest;
+use items::said;
+use items::said::Said;
 use items::say;
 use lent::held::rest;
 use lent::words::word;
@@ -20,45 +22,57 @@ use style::ResourceKey;
 use style::StyleValueKind;
 use style::StyleValueRef;
 
-fn winning(out: &mut [u8], at: usize, answer: Winning) -> usize {
-    let tag = b"winner";
+fn of_winning(answer: Winning) -> Said {
     match answer {
-        Winning::Nobody => say::two(out, at, tag, 0, 0),
-        Winning::Direct(number, source) => say::line(out, at, tag, &[0, 1, number, source]),
-        Winning::Rule(number, source) => say::line(out, at, tag, &[0, 2, number, source]),
-        Winning::Refused(refusal) => say::refused(out, at, tag, refusal),
+        Winning::Nobody => said::two(0, 0),
+        Winning::Direct(number, source) => said::four(0, 1, number, source),
+        Winning::Rule(number, source) => said::four(0, 2, number, source),
+        Winning::Refused(refusal) => said::refused(refusal),
+    }
+}
+
+fn winning(out: &mut [u8], at: usize, answer: Winning) -> usize {
+    said::line(out, at, b"winner", of_winning(answer))
+}
+
+fn of_kind(answer: StyleValueKind) -> Said {
+    match answer {
+        StyleValueKind::Value(n) => said::three(0, 0, n),
+        StyleValueKind::Resource(n) => said::three(0, 1, n),
+        StyleValueKind::Expr(n) => said::three(0, 2, n),
+        StyleValueKind::ResourceExpr(n) => said::three(0, 3, n),
+        StyleValueKind::Absent => said::one(0),
+        StyleValueKind::Refused(refusal) => said::refused(refusal),
     }
 }
 
 fn kind(out: &mut [u8], at: usize, answer: StyleValueKind) -> usize {
-    let tag = b"kind";
+    said::line(out, at, b"kind", of_kind(answer))
+}
+
+fn of_plain(answer: StyleValueRef) -> Said {
     match answer {
-        StyleValueKind::Value(n) => say::three(out, at, tag, 0, 0, n),
-        StyleValueKind::Resource(n) => say::three(out, at, tag, 0, 1, n),
-        StyleValueKind::Expr(n) => say::three(out, at, tag, 0, 2, n),
-        StyleValueKind::ResourceExpr(n) => say::three(out, at, tag, 0, 3, n),
-        StyleValueKind::Absent => say::one(out, at, tag, 0),
-        StyleValueKind::Refused(refusal) => say::refused(out, at, tag, refusal),
+        StyleValueRef::Value(n) => said::three(0, 0, n),
+        StyleValueRef::Resource(n) => said::three(0, 1, n),
+        StyleValueRef::Nothing => said::one(0),
+        StyleValueRef::Refused(refusal) => said::refused(refusal),
     }
 }
 
 fn plain(out: &mut [u8], at: usize, answer: StyleValueRef) -> usize {
-    let tag = b"plain";
+    said::line(out, at, b"plain", of_plain(answer))
+}
+
+fn of_resource(answer: ResourceKey) -> Said {
     match answer {
-        StyleValueRef::Value(n) => say::three(out, at, tag, 0, 0, n),
-        StyleValueRef::Resource(n) => say::three(out, at, tag, 0, 1, n),
-        StyleValueRef::Nothing => say::one(out, at, tag, 0),
-        StyleValueRef::Refused(refusal) => say::refused(out, at, tag, refusal),
+        ResourceKey::Key(n) => said::two(0, n),
+        ResourceKey::Nothing => said::one(0),
+        ResourceKey::Refused(refusal) => said::refused(refusal),
     }
 }
 
 fn resource(out: &mut [u8], at: usize, answer: ResourceKey) -> usize {
-    let tag = b"resource";
-    match answer {
-        ResourceKey::Key(n) => say::two(out, at, tag, 0, n),
-        ResourceKey::Nothing => say::one(out, at, tag, 0),
-        ResourceKey::Refused(refusal) => say::refused(out, at, tag, refusal),
-    }
+    said::line(out, at, b"resource", of_resource(answer))
 }
 
 // The winner of a property, and its entry: in full, plainly, and as a resource.

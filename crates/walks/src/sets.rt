@@ -42,12 +42,17 @@ fn set_of(ids: &[u16], count: usize, buffer: &mut [u16], out: &mut [u8], at: usi
     emptiness(out, b, is_empty(ids, count))
 }
 
+// Into as much of a buffer as word 1 says.
+fn set_lent(body: &[u32], ids: &[u16], out: &mut [u8], at: usize) -> usize {
+    let mut buffer = [half::FILLED; half::SIZE];
+    let n = half::room(body, 1);
+    set_of(ids, wide(word(body, 0)), &mut buffer[..n], out, at)
+}
+
 fn from_ids(body: &[u32], out: &mut [u8], at: usize) -> usize {
     let mut ids = [0u16; MOST];
     let k = half::narrow(rest(body, 2), &mut ids);
-    let mut buffer = [half::FILLED; half::SIZE];
-    let n = half::room(body, 1);
-    set_of(&ids[..k], wide(word(body, 0)), &mut buffer[..n], out, at)
+    set_lent(body, &ids[..k], out, at)
 }
 
 fn united(
@@ -63,23 +68,30 @@ fn united(
     half::listed(out, at, b"union", answer, buffer)
 }
 
-fn unite(body: &[u32], out: &mut [u8], at: usize) -> usize {
-    let k = wide(word(body, 3));
-    let mut a = [0u16; MOST];
-    let mut b = [0u16; MOST];
-    let i = half::narrow(part(body, 4, 4 + k), &mut a);
-    let j = half::narrow(rest(body, 4 + k), &mut b);
+// Into as much of a buffer as word 2 says.
+fn united_lent(body: &[u32], a: &[u16], b: &[u16], out: &mut [u8], at: usize) -> usize {
     let mut buffer = [half::FILLED; half::SIZE];
-    let n = half::room(body, 2);
-    united(
-        &a[..i],
-        wide(word(body, 0)),
-        &b[..j],
-        wide(word(body, 1)),
-        &mut buffer[..n],
-        out,
-        at,
-    )
+    let k = half::room(body, 2);
+    let n = wide(word(body, 0));
+    let m = wide(word(body, 1));
+    united(a, n, b, m, &mut buffer[..k], out, at)
+}
+
+// Where the ids of the second list begin.
+fn second(body: &[u32]) -> usize {
+    4 + wide(word(body, 3))
+}
+
+fn unite_with(body: &[u32], a: &[u16], out: &mut [u8], at: usize) -> usize {
+    let mut b = [0u16; MOST];
+    let k = half::narrow(rest(body, second(body)), &mut b);
+    united_lent(body, a, &b[..k], out, at)
+}
+
+fn unite(body: &[u32], out: &mut [u8], at: usize) -> usize {
+    let mut a = [0u16; MOST];
+    let k = half::narrow(part(body, 4, second(body)), &mut a);
+    unite_with(body, &a[..k], out, at)
 }
 
 fn affected(body: &[u32], out: &mut [u8], at: usize) -> usize {

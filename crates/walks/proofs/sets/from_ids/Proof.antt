@@ -14,29 +14,14 @@ slice-aggregate-narrow c = search needs
 narrow-requires : tie.Need-narrow-requires
 narrow-requires c κs = search needs
 
-room-requires : tie.Need-room-requires
-room-requires c κs = search needs
-
 array-share-prefix-ids : tie.Need-array-share-prefix-ids
 array-share-prefix-ids c = search needs
 
-slice-aggregate-set-of : tie.Need-slice-aggregate-set-of
-slice-aggregate-set-of c = sym (length-take-le _ _ (omega arith))
+slice-aggregate-set-lent : tie.Need-slice-aggregate-set-lent
+slice-aggregate-set-lent c = sym (length-take-le _ _ (omega arith))
 
-word-requires : tie.Need-word-requires
-word-requires c κs = search needs
-
-wide-requires : tie.Need-wide-requires
-wide-requires c κs = search needs
-
-array-borrow-prefix-buffer : tie.Need-array-borrow-prefix-buffer
-array-borrow-prefix-buffer c = search needs
-
-slice-aggregate-set-of-2 : tie.Need-slice-aggregate-set-of-2
-slice-aggregate-set-of-2 c = sym (length-take-le _ _ (omega arith))
-
-set-of-requires : tie.Need-set-of-requires
-set-of-requires c κs = search needs
+set-lent-requires : tie.Need-set-lent-requires
+set-lent-requires c κs = search needs
 
 same-length : tie.Need-same-length
 same-length c = search needs
@@ -51,13 +36,8 @@ from-ids-spec =
     rest-requires
     slice-aggregate-narrow
     narrow-requires
-    room-requires
     array-share-prefix-ids
-    slice-aggregate-set-of
-    word-requires
-    wide-requires
-    array-borrow-prefix-buffer
-    slice-aggregate-set-of-2
-    set-of-requires
+    slice-aggregate-set-lent
+    set-lent-requires
     same-length
     returns)
