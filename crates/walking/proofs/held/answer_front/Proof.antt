@@ -9,7 +9,10 @@ record-in-requires : tie.Need-record-in-requires
 record-in-requires c κs = search needs
 
 reply-requires : tie.Need-reply-requires
-reply-requires c κs = search needs
+reply-requires c κs =
+    let r = c .before .before .before .before .before .before .before in
+    let p = r .before .before .before .before .before .before .before .before .before .before .pre in
+    (p .0, (p .1 .1, r .record-in .ensures .1))
 
 same-length : tie.Need-same-length
 same-length c = search needs
@@ -33,10 +36,15 @@ same-length-7 : tie.Need-same-length-7
 same-length-7 c = search needs
 
 size-of-requires : tie.Need-size-of-requires
-size-of-requires c κs = search (item-known, needs)
+size-of-requires c κs =
+    let r = c .before .before .before .before .before .before .before .before .before .before .before .before .before .before .before .before .before .before .before .before .before .before in
+    item-known _ _ (r .record-in .ensures .0) (r .before .before .before .before .before .before .before .before .before .before .pre .1 .0)
 
 past-reply-requires : tie.Need-past-reply-requires
-past-reply-requires c κs = search (place-fits, needs)
+past-reply-requires c κs =
+    let r = c .before .before .before .before .before .before .before .before .before .before .before .before .before .before .before .before .before .before .before .before .before .before .before in
+    let p = r .before .before .before .before .before .before .before .before .before .before .pre in
+    place-fits _ _ _ _ (r .record-in .ensures .0) (c .size-of .ensures .0) (p .1 .0) (p .1 .2)
 
 returns : tie.Need-returns
 returns c = search (answers-is, needs)

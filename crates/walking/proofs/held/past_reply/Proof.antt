@@ -7,8 +7,8 @@ use Rattle.walking.proofs.held.past_reply.Tie as tie
 returns : tie.Need-returns
 returns c = search (reply-ends, needs)
 
-add-t4 : tie.Need-add-t4
-add-t4 c = search needs
+add-t7 : tie.Need-add-t7
+add-t7 c = search needs
 
 further-requires : tie.Need-further-requires
 further-requires c κs = search needs
@@ -17,4 +17,4 @@ returns-2 : tie.Need-returns-2
 returns-2 c = search (reply-goes, needs)
 
 pub past-reply-spec : {M : Type 1} → statement M
-past-reply-spec = tie.close (tie.spec returns add-t4 further-requires returns-2)
+past-reply-spec = tie.close (tie.spec returns add-t7 further-requires returns-2)
