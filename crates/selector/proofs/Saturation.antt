@@ -68,7 +68,7 @@ few-unsaturated f k n h each =
     let t = total-few (λ x. x .types) f k n (λ i l. each i l .types) in
     record { pseudos = omega arith; classes = omega arith; parts = omega arith; types = omega arith; ids = omega arith; tags = omega arith }
 
--- of an accepted selector. (Of a sheet's rule: `rule-never-saturates` in `sheet`)
+-- of an accepted selector. (Of a sheet's rule: `rule-never-saturates` in `weighed`)
 pub never-saturates : (steps : List ℕ) (n : ℕ) (combinators : List ℕ) (c : ℕ) → selectorVerdict steps n combinators c ≡ 0 → Unsaturated (countsIn steps n)
 unfolding countsIn
 never-saturates steps n combinators c z =
