@@ -49,7 +49,7 @@ pub ends-determined : {tooLong atEnd : Bool} {rest before : List ℕ} {r r′ : 
     → Ends tooLong atEnd rest before r after → Ends tooLong atEnd rest before r′ after′ → (r ≡ r′) × (after ≡ after′)
 ends-determined p q = (p .answer ∙ sym (q .answer), p .buffer ∙ sym (q .buffer))
 
--- ---- items: `end`, `number`, `numbers`; `line`, `one`, `two`, `three`, `refused`
+-- ---- items: `end`, `number`, `numbers`; `line`, `one`, `two`, `three`, `refused`, and `said::line`
 
 module _ {before : List ℕ} {at r r′ : ℕ} {after after′ : List ℕ} where
   pub said-end-determined : SaidEnd before at r after → SaidEnd before at r′ after′ → (r ≡ r′) × (after ≡ after′)

@@ -790,15 +790,13 @@ fn pair(before: Vec<Item>, bad: Stores, good: Stores) -> BuildCase {
     items.extend(every_call(0));
     items.push(cascade(1));
     items.extend(stored(good));
-    items.extend([read(0), cascade(1)]);
-    items.extend(asked(1, large));
-    items.push(style(0, 6, 1));
+    items.extend([read(0), cascade(1), read(1), style(0, 6, 1)]);
     items.extend(asked(0, large));
     case(items)
 }
 
 /// The whole sheet; of a large one, whose every line costs a test of all its
-/// words, the rules and entries at some places.
+/// words and which was read before, the rules and entries at some places.
 fn asked(which: u32, large: bool) -> Vec<Item> {
     if !large {
         return vec![read(which)];
