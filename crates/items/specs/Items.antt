@@ -2,7 +2,7 @@
 use mathlib.Core.Path.{_≡_}
 use mathlib.Core.Bool.{Bool, cond, _&&_}
 use mathlib.Core.List.{List}
-use Prim.Native.Nat.{ℕ, _+_, _-_, _*_}
+use Prim.Native.Nat.{ℕ, _+_, _-_, _*_, _≤_}
 use lib.ListN.{length, take, drop}
 use lib.Dec.{leb, ltb}
 use Rattle.lines.specs.Text.{wordAt, Read}
@@ -36,3 +36,8 @@ pub record Taken (bytes : List ℕ) (from next have op : ℕ) (before : List ℕ
   pub ends : next ≡ endOf (take have bytes) from
   pub first : op ≡ wordAt (between bytes from next) 0
   pub rest : Read (drop 8 (between bytes from next)) before count after
+
+-- what begins at `from` now is what began at `at` before, as far as the first `have` bytes told it: none of them is passed over or taken again
+pub record Onward (before : List ℕ) (at have : ℕ) (after : List ℕ) (from have′ : ℕ) : Type 0 where
+  pub same : take (have - at) (drop from after) ≡ between before at have
+  pub least : have - at ≤ have′ - from

@@ -12,7 +12,7 @@ ghost use Prim.Native.Nat.{_≤_};
 ghost use lib.ListN.{length, take};
 ghost use lib.Dec.{ltb};
 ghost use Rattle.screen.specs.Ends.{Ends};
-ghost use Rattle.items.specs.Items.{endOf, tooLong, Taken};
+ghost use Rattle.items.specs.Items.{endOf, tooLong, Taken, Onward};
 
 // Where the item that begins at `at` ends; `at` where it is cut short or too long.
 pub fn end(input: &[u8], at: usize) -> usize
@@ -51,6 +51,7 @@ struct Stretch {
 fn find(input: &mut [u8], at: usize, have: usize) -> Stretch
     requires { ⌜ (at ≤ have) × (have ≤ length (now input)) ⌝ }
     ensures { λ r. ⌜ (r .from ≤ r .to) × (r .to ≤ r .have) × (r .have ≤ length (now (input .entry))) × (r .to ≡ endOf (take (r .have) (now (input .exit))) (r .from)) ⌝ }
+    ensures { λ r. ⌜ Onward (now (input .entry)) at have (now (input .exit)) (r .from) (r .have) ⌝ }
 {
     let to = end_within(input, have, at);
     if at < to {
@@ -95,6 +96,7 @@ fn take(input: &mut [u8], words: &mut [u32], item: Item) -> Item
     requires { ⌜ (item .next ≤ item .have) × (item .have ≤ length (now input)) ⌝ }
     ensures { λ r. ⌜ (r .count ≤ length (now (words .entry))) × (r .next ≤ r .have) × (r .have ≤ length (now (input .entry))) ⌝ }
     ensures { λ r. ⌜ Taken (now (input .exit)) (r .from) (r .next) (r .have) (r .op) (now (words .entry)) (r .count) (now (words .exit)) ⌝ }
+    ensures { λ r. ⌜ Onward (now (input .entry)) (item .next) (item .have) (now (input .exit)) (r .from) (r .have) ⌝ }
 {
     let at = find(input, item.next, item.have);
     let from = at.from;
@@ -114,6 +116,7 @@ pub fn next(input: &mut [u8; SIZE], words: &mut [u32; MOST], item: Item) -> Item
     requires { ⌜ (item .next ≤ item .have) × (item .have ≤ 262144) ⌝ }
     ensures { λ r. ⌜ (r .next ≤ r .have) × (r .have ≤ 262144) ⌝ }
     ensures { λ r. ⌜ Taken (now (input .exit)) (r .from) (r .next) (r .have) (r .op) (now (words .entry)) (r .count) (now (words .exit)) ⌝ }
+    ensures { λ r. ⌜ Onward (now (input .entry)) (item .next) (item .have) (now (input .exit)) (r .from) (r .have) ⌝ }
 {
     take(input, words, item)
 }
