@@ -8,7 +8,7 @@ use lib.ListN.{length}
 use lib.Seq.{sets}
 use Rattle.builder.specs.declared.Pushing.{Pushing}
 use Rattle.settle.specs.declared.Settled.{Settled}
-use Rattle.matcher.specs.declared.Building.{Building}
+use Rattle.building.specs.declared.Building.{Building}
 use Rattle.entering.specs.declared.Entering.{Entering}
 use Rattle.table.specs.Tables.{Table, matchedAt}
 use Rattle.table.specs.Entering.{built, lacksRoom, childOf, entered}

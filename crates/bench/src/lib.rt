@@ -1,8 +1,8 @@
 // For measuring: the public calls under plain names, with numbers and slices only. Linked by the Rust program in bench/.
 use builder::Pushing;
+use building::Building;
 use entering::Entering;
 use lent::words::copy_into;
-use matcher::Building;
 use matcher::MatchState;
 use typed::SelectorInputs;
 ghost use mathlib.Core.Path.{_≡_};
@@ -113,7 +113,7 @@ pub extern "C" fn bench_build(
 ) -> u32
     ensures { λ r. ⌜ ((m t : List ℕ) → Builds (now (sheet .entry)) stamp (table (now (head .entry)) (now (states .entry)) (now (cursors .entry)) m t) r (table (now (head .exit)) (now (states .exit)) (now (cursors .exit)) m t)) ⌝ }
 {
-    let building = matcher::build::build(sheet, stamp, 0, head, states, cursors);
+    let building = building::build(sheet, stamp, 0, head, states, cursors);
     built(building)
 }
 

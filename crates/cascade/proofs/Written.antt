@@ -16,7 +16,7 @@ use Rattle.lent.proofs.Refusals.{first-stop, first-go, told-first}
 use Rattle.sheet.specs.Shape.{sheetShape}
 use Rattle.table.specs.Tables.{table}
 use Rattle.table.specs.Calls.{broken, notAState}
-use Rattle.matcher.proofs.Builds.{roots-few}
+use Rattle.building.proofs.Builds.{roots-few}
 use Rattle.channels.specs.Channels.{channelsOf}
 use Rattle.changeset.specs.Marks.{idsIn}
 use Rattle.changeset.specs.Sets.{tooShort, Lists}

@@ -21,7 +21,8 @@ use Rattle.table.proofs.Shaped.{shaped}
 use Rattle.advance.specs.Advancing.{Advanced, Room}
 use Rattle.advance.proofs.Range.{room-few, room-many}
 use Rattle.advance.proofs.Advanced.{advanced-state}
-use Rattle.settle.specs.Settling.{state, Settles}
+use Rattle.finding.specs.States.{state}
+use Rattle.settle.specs.Settling.{Settles}
 use Rattle.settle.specs.declared.Settled.{Settled}
 use Rattle.settle.specs.declared.Settled.the-variants.{At, NoRoom}
 use Rattle.entering.specs.Answers.{Enters, Parents}

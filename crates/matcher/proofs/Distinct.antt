@@ -1,4 +1,4 @@
--- Equal numbers told are equal answers, so that the contracts determine answer and memory. Assumes nothing.
+-- Equal numbers told are equal answers, so that the contracts determine the answer. Assumes nothing.
 use mathlib.Core.Path.{_≡_, refl, sym, ap, _∙_}
 use mathlib.Core.List.{List}
 use Prim.Native.Nat.{ℕ}
@@ -6,19 +6,10 @@ use lib.ListN.{getD}
 use denote.Ref.{RefT}
 use Rattle.lent.proofs.Refusals.{readBack, read-refused}
 use Rattle.table.specs.Tables.{Table}
-use Rattle.matcher.specs.Answers.{buildingTold, listingTold, Build, Part, Rules}
-use Rattle.matcher.specs.declared.Building.{Building}
+use Rattle.matcher.specs.Answers.{listingTold, Part, Rules}
 use Rattle.matcher.specs.declared.Listing.{Listing}
 
 -- ---- read back
-
-building-back : (r : Building) → readBack (λ l. Building.Built) Building.Refused (buildingTold r) ≡ r
-unfolding readBack
-building-back Building.Built = refl
-building-back (Building.Refused r) = read-refused (λ l. Building.Built) Building.Refused r
-
-pub building-distinct : (a b : Building) → buildingTold a ≡ buildingTold b → a ≡ b
-building-distinct a b e = sym (building-back a) ∙ ap (readBack (λ l. Building.Built) Building.Refused) e ∙ building-back b
 
 abbrev partFrom : List ℕ → Listing
 partFrom l = Listing.Part (getD l 0 0) (getD l 1 0)
@@ -31,11 +22,7 @@ listing-back (Listing.Refused r) = read-refused partFrom Listing.Refused r
 pub listing-distinct : (a b : Listing) → listingTold a ≡ listingTold b → a ≡ b
 listing-distinct a b e = sym (listing-back a) ∙ ap (readBack partFrom Listing.Refused) e ∙ listing-back b
 
--- ---- THEOREM: any two outcomes that a call's contract allows are equal, answer and memory
-
-pub build-determined : {w : List ℕ} {stamp ranking : ℕ} {t : Table} {r r′ : Building} {u u′ : Table}
-    → Build w stamp ranking t r u → Build w stamp ranking t r′ u′ → (r ≡ r′) × (u ≡ u′)
-build-determined {r = r} {r′ = r′} p q = (building-distinct r r′ (p .answer ∙ sym (q .answer)), p .memory ∙ sym (q .memory))
+-- ---- THEOREM: any two answers that a call's contract allows are equal
 
 pub part-determined : {w : List ℕ} {t : Table} {number stamp : ℕ} {r r′ : Listing} → Part w t number stamp r → Part w t number stamp r′ → r ≡ r′
 part-determined {r = r} {r′ = r′} p q = listing-distinct r r′ (p .answer ∙ sym (q .answer))

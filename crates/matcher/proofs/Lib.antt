@@ -1,5 +1,4 @@
--- The ways out of the calls on a table, and what their answers mean.
+-- The ways out of the calls on a table's states, and what answers mean.
 pub mod Listed
-pub mod Builds
 pub mod Answers
 pub mod Distinct

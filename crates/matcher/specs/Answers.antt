@@ -1,4 +1,4 @@
--- What the calls on a table answer, and the memory with it. Assumes nothing.
+-- What the calls on a table's states answer. Assumes nothing.
 use mathlib.Core.Path.{_≡_}
 use mathlib.Core.Bool.{cond}
 use mathlib.Core.List.{List, [], _∷_}
@@ -8,26 +8,14 @@ use denote.Ref.{RefT}
 use Rattle.lent.specs.Pool.{startOf}
 use Rattle.lent.specs.Refusals.{told, answered}
 use Rattle.table.specs.Tables.{Table, matchedEnds, matchedAt}
-use Rattle.table.specs.Entering.{built}
-use Rattle.table.specs.Calls.{stateVerdict, buildVerdict}
-use Rattle.matcher.specs.declared.Building.{Building}
+use Rattle.table.specs.Calls.{stateVerdict}
 use Rattle.matcher.specs.declared.Listing.{Listing}
 
--- ---- the answers as numbers: 0 and what is told, or a refusal's own number
-
-abbrev pub buildingTold : Building → List ℕ
-buildingTold Building.Built = 0 ∷ []
-buildingTold (Building.Refused r) = told r
+-- ---- the answer as numbers: 0 and what is told, or a refusal's own number
 
 abbrev pub listingTold : Listing → List ℕ
 listingTold (Listing.Part from to) = 0 ∷ from ∷ to ∷ []
 listingTold (Listing.Refused r) = told r
-
--- ---- answer and memory; a refused call changes no word
-
-pub record Build (w : List ℕ) (stamp ranking : ℕ) (t : Table) (r : Building) (t′ : Table) : Type 0 where
-  pub answer : buildingTold r ≡ answered (buildVerdict w ranking (t .states) (t .cursors)) (0 ∷ [])
-  pub memory : t′ ≡ cond (eqb (buildVerdict w ranking (t .states) (t .cursors)) 0) (built w stamp ranking t) t
 
 -- ---- a state's matched rules
 

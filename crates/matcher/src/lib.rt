@@ -1,7 +1,6 @@
-// The matcher over a lent table: build, and the matched rules of a state. `Matcher` of matcher.rs.
+// The matcher over a lent table: the matched rules of a state. `Matcher` of matcher.rs.
 use lent::Refusal;
 
-pub mod build;
 pub mod held;
 pub mod rules;
 pub mod states;
@@ -10,11 +9,6 @@ pub mod states;
 pub struct MatchState {
     pub number: u32,
     pub stamp: u32,
-}
-
-pub enum Building {
-    Built,
-    Refused(Refusal),
 }
 
 // Where a list stands: from, up to.

@@ -13,9 +13,9 @@ use Rattle.typed.specs.Typed.{inputsTags, inputsRow}
 use Rattle.table.specs.Tables.{Table}
 use Rattle.table.specs.Entering as Memory
 use Rattle.table.specs.Entering.{entered, childOf}
-use Rattle.matcher.specs.Answers.{Build}
 use Rattle.matcher.specs.declared.MatchState.{MatchState}
-use Rattle.matcher.specs.declared.Building.{Building}
+use Rattle.building.specs.Answers.{Build}
+use Rattle.building.specs.declared.Building.{Building}
 use Rattle.entering.specs.Answers.{Enter}
 use Rattle.entering.specs.declared.Entering.{Entering}
 use Rattle.covered.specs.Covered.{Builds, Enters, Reached, After}

@@ -23,12 +23,13 @@ use Rattle.table.specs.Tables.{Table, selectorsOf, stampIn, statesIn, transitio
 use Rattle.table.specs.Entering as Memory
 use Rattle.table.specs.Entering.{transitionFits}
 use Rattle.table.specs.Calls.{notAState, stateVerdict}
-use Rattle.matcher.specs.Answers.{Build, Part, Rules}
+use Rattle.matcher.specs.Answers.{Part, Rules}
 use Rattle.matcher.specs.declared.MatchState.{MatchState}
-use Rattle.matcher.specs.declared.Building.{Building}
 use Rattle.matcher.specs.declared.Listing.{Listing}
-use Rattle.matcher.proofs.Answers.{built-is, build-refused-is}
 use Rattle.matcher.proofs.Distinct.{listing-distinct}
+use Rattle.building.specs.Answers.{Build}
+use Rattle.building.specs.declared.Building.{Building}
+use Rattle.building.proofs.Answers.{built-is, build-refused-is}
 use Rattle.entering.specs.Answers.{Enter}
 use Rattle.entering.specs.declared.Entering.{Entering}
 use Rattle.entering.proofs.Answers.{entered-is, enter-refused-is, entering-distinct}

@@ -19,9 +19,9 @@ use Rattle.typed.specs.Typed.{inputsRow}
 use Rattle.style.specs.Entries.{Entry}
 use Rattle.table.specs.Tables.{Table, rankingIn}
 use Rattle.table.specs.Calls.{broken, notAState, stateVerdict}
-use Rattle.matcher.specs.Answers.{Build}
-use Rattle.matcher.specs.declared.Building.{Building}
-use Rattle.matcher.proofs.Answers.{built-is}
+use Rattle.building.specs.Answers.{Build}
+use Rattle.building.specs.declared.Building.{Building}
+use Rattle.building.proofs.Answers.{built-is}
 use Rattle.entering.specs.Answers.{Enter}
 use Rattle.entering.specs.declared.Entering.{Entering}
 use Rattle.winners.specs.Winners.{winnerOf, entryOf}

@@ -48,9 +48,10 @@ use Rattle.made.proofs.Pushed.{nothing-accepted, nothing-pushed}
 use Rattle.table.specs.Tables.{Table}
 use Rattle.table.specs.Entering.{rootLacksRoom, lacksRoom}
 use Rattle.table.specs.Calls.{broken, notAState, buildVerdict, stateVerdict, enterVerdict}
-use Rattle.matcher.specs.Answers.{buildingTold, listingTold, Build, Part, Rules}
-use Rattle.matcher.specs.declared.Building.{Building}
+use Rattle.matcher.specs.Answers.{listingTold, Part, Rules}
 use Rattle.matcher.specs.declared.Listing.{Listing}
+use Rattle.building.specs.Answers.{buildingTold, Build}
+use Rattle.building.specs.declared.Building.{Building}
 use Rattle.entering.specs.Answers.{enteringTold, Enter}
 use Rattle.entering.specs.declared.Entering.{Entering}
 use Rattle.channels.specs.Channels.{channelsOf}

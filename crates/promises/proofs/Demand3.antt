@@ -20,7 +20,7 @@ use Rattle.table.specs.Tables.{Table, selectorsOf, rankingIn}
 use Rattle.table.specs.Entering.{built}
 use Rattle.table.specs.Calls.{stateVerdict}
 use Rattle.matcher.specs.Answers.{Rules}
-use Rattle.matcher.proofs.Answers.{build-refused-is}
+use Rattle.building.proofs.Answers.{build-refused-is}
 use Rattle.entering.proofs.Answers.{enter-refused-is}
 use Rattle.winners.specs.Winners as winners
 use Rattle.winners.specs.Winners.{Place, style}

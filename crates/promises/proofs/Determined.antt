@@ -33,9 +33,11 @@ use Rattle.builder.specs.declared.Pushing.{Pushing}
 use Rattle.builder.proofs.Pushes.{push-determined}
 use Rattle.table.specs.Tables.{Table, table}
 use Rattle.table.specs.Calls.{stateVerdict}
-use Rattle.matcher.specs.Answers.{Build, Part, Rules}
-use Rattle.matcher.specs.declared.Building.{Building}
-use Rattle.matcher.proofs.Distinct.{build-determined, part-determined, rules-determined}
+use Rattle.matcher.specs.Answers.{Part, Rules}
+use Rattle.matcher.proofs.Distinct.{part-determined, rules-determined}
+use Rattle.building.specs.Answers.{Build}
+use Rattle.building.specs.declared.Building.{Building}
+use Rattle.building.proofs.Distinct.{build-determined}
 use Rattle.entering.specs.Answers.{Enter}
 use Rattle.entering.specs.declared.Entering.{Entering}
 use Rattle.entering.proofs.Answers.{enter-determined}
@@ -179,7 +181,7 @@ module _ (w : List ℕ) where
 pub pushes-determined : (verdict : ℕ) (before pushed : List ℕ) → Determined (λ (o : Pushing × List ℕ). Push verdict before pushed (o .0) (o .1))
 pushes-determined verdict before pushed a b p q = pairs (push-determined p q)
 
--- ---- matcher, entering. `build` is lent the first three pieces of a table, and its contract holds whatever the other two are; `enter_subject` is lent all five
+-- ---- matcher, building, entering. `build` is lent the first three pieces of a table, and its contract holds whatever the other two are; `enter_subject` is lent all five
 
 pub builds-determined : (w : List ℕ) (stamp ranking : ℕ) (head states cursors : List ℕ)
     → Determined (λ (o : Building × List ℕ × List ℕ × List ℕ).

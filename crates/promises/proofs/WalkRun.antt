@@ -11,8 +11,8 @@ use Rattle.made.specs.Made.{Made}
 use Rattle.made.proofs.Promises.{made-shaped}
 use Rattle.table.specs.Tables.{Table, selectorsOf, rankingIn, stateAt}
 use Rattle.table.specs.Calls.{stateVerdict}
-use Rattle.matcher.specs.Answers.{Build}
-use Rattle.matcher.specs.declared.Building.{Building}
+use Rattle.building.specs.Answers.{Build}
+use Rattle.building.specs.declared.Building.{Building}
 use Rattle.entering.specs.Answers.{Enter}
 use Rattle.entering.specs.declared.Entering.{Entering}
 use Rattle.changeset.specs.Sets.{changingTold, Lists}

@@ -21,11 +21,11 @@ use Rattle.sheet.specs.Shape.{sheetShape}
 use Rattle.table.specs.Tables.{Table, selectorsOf, statesIn, cursorsIn, matchedIn, cursorEnds, matchedEnds, stateAt}
 use Rattle.table.specs.Entering.{rootsOf, rootLacksRoom, built, nextState, roomFor, roomIn, cachedIn, lacksRoom, childOf}
 use Rattle.table.specs.Calls.{buildVerdict}
-use Rattle.matcher.specs.Answers.{Build}
 use Rattle.matcher.specs.declared.MatchState.{MatchState}
-use Rattle.matcher.specs.declared.Building.{Building}
-use Rattle.matcher.proofs.Answers.{built-is}
-use Rattle.matcher.proofs.Distinct.{building-distinct}
+use Rattle.building.specs.Answers.{Build}
+use Rattle.building.specs.declared.Building.{Building}
+use Rattle.building.proofs.Answers.{built-is}
+use Rattle.building.proofs.Distinct.{building-distinct}
 use Rattle.entering.specs.Answers.{Enter}
 use Rattle.entering.specs.declared.Entering.{Entering}
 use Rattle.entering.proofs.Answers.{entered-is, entering-distinct}

@@ -8,9 +8,9 @@ use Rattle.selector.specs.Tags.{Tags}
 use Rattle.typed.specs.declared.SelectorInputs.{SelectorInputs}
 use Rattle.typed.specs.Typed.{inputsTags, inputsRow}
 use Rattle.table.specs.Tables.{Table}
-use Rattle.matcher.specs.Answers.{Build}
 use Rattle.matcher.specs.declared.MatchState.{MatchState}
-use Rattle.matcher.specs.declared.Building.{Building}
+use Rattle.building.specs.Answers.{Build}
+use Rattle.building.specs.declared.Building.{Building}
 use Rattle.entering.specs.Answers.{Enter}
 use Rattle.entering.specs.declared.Entering.{Entering}
 

@@ -1,17 +1,11 @@
 -- What the cores that write a table say. For contracts within and cores alone. Assumes nothing.
 use mathlib.Core.Path.{_≡_}
 use mathlib.Core.Bool.{cond}
-use mathlib.Core.List.{List}
-use Prim.Native.Nat.{ℕ}
 use Rattle.theory.specs.States.{State}
 use Rattle.table.specs.Tables.{Table}
 use Rattle.table.specs.Entering.{numberIn, stateLacksRoom, holding}
 use Rattle.settle.specs.declared.Settled.{Settled}
 use Rattle.settle.specs.declared.Settled.the-variants.{At, NoRoom}
-
--- a state's two lists
-abbrev pub state : List ℕ → List ℕ → State
-state cursors matched = record { cursors = cursors; matched = matched }
 
 -- r is the number of the state s in the table afterwards, or says that there is no room for it and nothing was written
 pub record Settles (t : Table) (s : State) (r : Settled) (t′ : Table) : Type 0 where

@@ -341,7 +341,7 @@ fn answer(input: &mut [u8], have: usize, m: Making, sheet: &[u32], out: &mut [u8
     let mut matched = [0u32; 4096];
     let mut transitions = [0u32; 83968];
     let mut items = [0u32; 38];
-    matcher::held::build(
+    building::held::build(
         sheet,
         m.stamp,
         m.ranking,

@@ -1,10 +1,10 @@
 // The calls on a table.
 use crate::look;
 use crate::tell;
+use building::root_state;
 use entering::enter::enter_subject;
 use lent::words::word;
 use matcher::MatchState;
-use matcher::build::root_state;
 use matcher::rules::matching_part;
 use matcher::rules::matching_rules;
 use typed::SelectorInputs;
@@ -29,14 +29,7 @@ fn build(
     out: &mut [u8],
     at: usize,
 ) -> usize {
-    let building = matcher::build::build(
-        sheet,
-        word(body, 0),
-        word(body, 1),
-        head,
-        states,
-        cursors,
-    );
+    let building = building::build(sheet, word(body, 0), word(body, 1), head, states, cursors);
     tell::building(out, at, building)
 }
 

@@ -1,4 +1,5 @@
 // What answers say, and the words of the pieces.
+use building::Building;
 use cursor::NextRule;
 use cursor::step;
 use entering::Entering;
@@ -7,7 +8,6 @@ use lent::held::part;
 use lent::words::wide;
 use lent::words::word;
 use lines::text;
-use matcher::Building;
 use matcher::Listing;
 use matcher::MatchState;
 

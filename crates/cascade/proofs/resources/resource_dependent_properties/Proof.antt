@@ -1,6 +1,6 @@
 use borrow.Author.Tests.{not-true, not-false}
 use borrow.Author.Needs.{needs}
-use Rattle.matcher.proofs.Builds.{sheet-there}
+use Rattle.building.proofs.Builds.{sheet-there}
 use Rattle.cascade.proofs.Written.{resources-broken, resources-listed}
 use Rattle.cascade.proofs.resources.resource_dependent_properties.Statement.{statement}
 use Rattle.cascade.proofs.resources.resource_dependent_properties.Tie as tie

@@ -8,7 +8,7 @@ use Rattle.theory.specs.States.{State}
 use Rattle.table.specs.Tables.{cursorsAt, matchedAt}
 use Rattle.table.specs.Shape.{same}
 use Rattle.table.specs.Entering.{firstFrom, isState, numberFor}
-use Rattle.settle.specs.Settling.{state}
+use Rattle.finding.specs.States.{state}
 
 -- ---- one state
 

@@ -3,9 +3,9 @@ use native.Mathlib.Omega.{arith}
 use lib.Seq.{length-take-le}
 use borrow.Author.Needs.{needs}
 use Rattle.table.proofs.Roots.{held-within}
-use Rattle.matcher.proofs.Builds.{roots-few, root-built}
-use Rattle.matcher.proofs.held.build.Statement.{statement}
-use Rattle.matcher.proofs.held.build.Tie as tie
+use Rattle.building.proofs.Builds.{roots-few, root-built}
+use Rattle.building.proofs.held.build.Statement.{statement}
+use Rattle.building.proofs.held.build.Tie as tie
 
 slice-aggregate-roots : tie.Need-slice-aggregate-roots
 slice-aggregate-roots c = search needs

@@ -1,9 +1,9 @@
 use Prim.Native.Nat.{_-_}
 use borrow.Author.Needs.{needs}
-use Rattle.settle.specs.Settling.{state}
-use Rattle.settle.proofs.Finding.{Seeking, seek-start, seek-hit, seek-more, seek-end}
-use Rattle.settle.proofs.held.number_for.Statement.{statement}
-use Rattle.settle.proofs.held.number_for.Tie as tie
+use Rattle.finding.specs.States.{state}
+use Rattle.finding.proofs.Finding.{Seeking, seek-start, seek-hit, seek-more, seek-end}
+use Rattle.finding.proofs.held.number_for.Statement.{statement}
+use Rattle.finding.proofs.held.number_for.Tie as tie
 
 abbrev Inv-loop : tie.InvT-loop
 Inv-loop states cursors matched n next listed k₀ k = Seeking states cursors matched n (state next listed) k

@@ -1,9 +1,9 @@
 use native.Mathlib.Omega.{arith}
 use borrow.Author.Needs.{needs}
 use Rattle.lent.proofs.Pool.{stride-fits}
-use Rattle.settle.proofs.Growing.{room-many, room-rows, room-cursors, room-is}
-use Rattle.settle.proofs.held.room_for.Statement.{statement}
-use Rattle.settle.proofs.held.room_for.Tie as tie
+use Rattle.finding.proofs.Room.{room-many, room-rows, room-cursors, room-is}
+use Rattle.finding.proofs.held.room_for.Statement.{statement}
+use Rattle.finding.proofs.held.room_for.Tie as tie
 
 word-requires : tie.Need-word-requires
 word-requires c κs = search needs

@@ -4,9 +4,9 @@ use lib.Seq.{length-take-le}
 use borrow.Author.Tests.{not-true, not-false}
 use borrow.Author.Needs.{needs}
 use Rattle.table.proofs.Roots.{held-within}
-use Rattle.matcher.proofs.Builds.{sheet-there, roots-few, build-broken, build-code, build-row, build-cursors, build-built}
-use Rattle.matcher.proofs.build.build.Statement.{statement}
-use Rattle.matcher.proofs.build.build.Tie as tie
+use Rattle.building.proofs.Builds.{sheet-there, roots-few, build-broken, build-code, build-row, build-cursors, build-built}
+use Rattle.building.proofs.build.Statement.{statement}
+use Rattle.building.proofs.build.Tie as tie
 
 is-sheet-requires : tie.Need-is-sheet-requires
 is-sheet-requires c κs = search needs

@@ -1,7 +1,7 @@
 -- Written out, so that a wrong root is refused here and not first in `build`.
 use borrow.Author.Needs.{needs}
-use Rattle.matcher.proofs.build.put_root.Statement.{statement}
-use Rattle.matcher.proofs.build.put_root.Tie as tie
+use Rattle.building.proofs.put_root.Statement.{statement}
+use Rattle.building.proofs.put_root.Tie as tie
 
 cast-n : tie.Need-cast-n
 cast-n c = search needs

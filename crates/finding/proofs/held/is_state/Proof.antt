@@ -1,8 +1,8 @@
 use borrow.Author.Needs.{needs}
 use borrow.Author.Tests.{not-true, not-false}
-use Rattle.settle.proofs.Finding.{other-cursors, same-cursors}
-use Rattle.settle.proofs.held.is_state.Statement.{statement}
-use Rattle.settle.proofs.held.is_state.Tie as tie
+use Rattle.finding.proofs.Finding.{other-cursors, same-cursors}
+use Rattle.finding.proofs.held.is_state.Statement.{statement}
+use Rattle.finding.proofs.held.is_state.Tie as tie
 
 list-of-requires : tie.Need-list-of-requires
 list-of-requires c κs = search needs

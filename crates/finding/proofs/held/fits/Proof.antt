@@ -1,7 +1,7 @@
 use borrow.Author.Needs.{needs}
-use Rattle.settle.proofs.Growing.{fits-none, fits-less, fits-is}
-use Rattle.settle.proofs.held.fits.Statement.{statement}
-use Rattle.settle.proofs.held.fits.Tie as tie
+use Rattle.finding.proofs.Room.{fits-none, fits-less, fits-is}
+use Rattle.finding.proofs.held.fits.Statement.{statement}
+use Rattle.finding.proofs.held.fits.Tie as tie
 
 wide-requires : tie.Need-wide-requires
 wide-requires c κs = search needs

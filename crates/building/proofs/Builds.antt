@@ -16,8 +16,8 @@ use Rattle.sheet.specs.Shape.{sheetShape}
 use Rattle.table.specs.Tables.{table}
 use Rattle.table.specs.Entering.{rootsOf, rootLacksRoom, builtHead, built}
 use Rattle.table.specs.Calls.{buildVerdict}
-use Rattle.matcher.specs.Answers.{Build}
-use Rattle.matcher.specs.declared.Building.the-variants.{Built, Refused}
+use Rattle.building.specs.Answers.{Build}
+use Rattle.building.specs.declared.Building.the-variants.{Built, Refused}
 
 -- ---- by each way through the code
 

@@ -1,9 +1,8 @@
-// A table built of a sheet.
-use crate::Building;
-use crate::MatchState;
+// A table built of a sheet: the root state alone. `build_matcher` and `Matcher::root_state` of matcher.rs.
 use lent::Refusal;
 use lent::words::copy_into;
 use lent::words::wide;
+use matcher::MatchState;
 use sheet::shape::is_sheet;
 use table::held::roots;
 use table::layout;
@@ -14,7 +13,14 @@ ghost use lib.ListN.{length};
 ghost use lib.Seq.{sets};
 ghost use Rattle.table.specs.Tables.{table};
 ghost use Rattle.table.specs.Entering.{builtHead};
-ghost use Rattle.matcher.specs.Answers.{Build};
+ghost use Rattle.building.specs.Answers.{Build};
+
+pub mod held;
+
+pub enum Building {
+    Built,
+    Refused(Refusal),
+}
 
 // `Matcher::root_state`
 pub fn root_state(stamp: u32) -> MatchState
