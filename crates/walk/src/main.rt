@@ -3,11 +3,11 @@ use gather::Filled;
 use house::Making;
 use house::Walked;
 use making::held::feed_sheet;
-use replies::held::refuse;
 use screen::held::fill;
 use screen::held::shift;
 use screen::send;
 use walking::held::feed_walk;
+use wording::held::refused;
 ghost use mathlib.Core.Path.{_≡_};
 ghost use mathlib.Core.Bool.{true, false};
 ghost use Prim.Native.Nat.{_≤_};
@@ -188,7 +188,7 @@ fn read_sheet(
 fn say_refused(out: &mut [u8], verdict: u32, offset: u64)
     requires { ⌜ length (now out) ≡ 131072 ⌝ }
 {
-    let used = refuse(out, 0, verdict, offset);
+    let used = refused(out, 0, verdict, offset);
     send(out, used, 0);
 }
 
