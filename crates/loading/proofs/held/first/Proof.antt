@@ -1,8 +1,8 @@
--- `walk::first` meets its contract. Assumes nothing.
+-- `loading::held::first` meets its contract. Assumes nothing.
 use mathlib.Core.Path.{refl}
 use Rattle.house.proofs.Starting.{start-before}
-use Rattle.walk.proofs.first.Statement.{statement}
-use Rattle.walk.proofs.first.Tie as tie
+use Rattle.loading.proofs.held.first.Statement.{statement}
+use Rattle.loading.proofs.held.first.Tie as tie
 
 returns : tie.Need-returns
 returns c = (refl, start-before)

@@ -1,8 +1,8 @@
--- `walk::turn_walk` meets its contract. Assumes nothing.
+-- `touring::held::turn_walk` meets its contract. Assumes nothing.
 use borrow.Author.Needs.{needs}
-use Rattle.walk.proofs.Laws.{reaches, at-most}
-use Rattle.walk.proofs.turn_walk.Statement.{statement}
-use Rattle.walk.proofs.turn_walk.Tie as tie
+use Rattle.touring.proofs.Laws.{reaches, at-most}
+use Rattle.touring.proofs.held.turn_walk.Statement.{statement}
+use Rattle.touring.proofs.held.turn_walk.Tie as tie
 
 fill-requires : tie.Need-fill-requires
 fill-requires c κs = search needs

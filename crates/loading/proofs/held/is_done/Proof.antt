@@ -1,8 +1,8 @@
--- `walk::is_done` meets its contract. Assumes nothing.
+-- `loading::held::is_done` meets its contract. Assumes nothing.
 use mathlib.Core.Bool.{true≢false}
 use borrow.Author.Needs.{needs}
-use Rattle.walk.proofs.is_done.Statement.{statement}
-use Rattle.walk.proofs.is_done.Tie as tie
+use Rattle.loading.proofs.held.is_done.Statement.{statement}
+use Rattle.loading.proofs.held.is_done.Tie as tie
 
 returns : tie.Need-returns
 returns c = λ e. absurd (true≢false e)

@@ -1,8 +1,8 @@
--- `walk::answer` meets its contract. Assumes nothing.
+-- `touring::held::answer` meets its contract. Assumes nothing.
 use borrow.Author.Needs.{needs}
-use Rattle.walk.proofs.Laws.{ready-built}
-use Rattle.walk.proofs.answer.Statement.{statement}
-use Rattle.walk.proofs.answer.Tie as tie
+use Rattle.touring.proofs.Laws.{ready-built}
+use Rattle.touring.proofs.held.answer.Statement.{statement}
+use Rattle.touring.proofs.held.answer.Tie as tie
 
 slice-aggregate-build : tie.Need-slice-aggregate-build
 slice-aggregate-build c = search needs

@@ -1,11 +1,11 @@
--- `walk::read_sheet` meets its contract. Assumes nothing.
+-- `loading::held::read_sheet` meets its contract. Assumes nothing.
 use mathlib.Core.Path.{_≡_, _∙_}
 use lib.ListN.{length}
 use Rattle.given.specs.Given.{given}
-use Rattle.walk.proofs.Laws.{Turning, turning-start, turning-before, turning-next, reads-size}
+use Rattle.loading.proofs.Laws.{Turning, turning-start, turning-before, turning-next, reads-size}
 use borrow.Author.Needs.{needs}
-use Rattle.walk.proofs.read_sheet.Statement.{statement}
-use Rattle.walk.proofs.read_sheet.Tie as tie
+use Rattle.loading.proofs.held.read_sheet.Statement.{statement}
+use Rattle.loading.proofs.held.read_sheet.Tie as tie
 
 abbrev Inv-loop : tie.InvT-loop
 Inv-loop input₀ sheet₀ rules₀ steps₀ combinators₀ properties₀ kinds₀ numbers₀ s₀ turns₀ input sheet rules steps combinators properties kinds numbers s turns =

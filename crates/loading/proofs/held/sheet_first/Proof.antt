@@ -1,11 +1,11 @@
--- `walk::sheet_first` meets its contract. Assumes nothing.
+-- `loading::held::sheet_first` meets its contract. Assumes nothing.
 use mathlib.Core.Path.{sym}
 use native.Mathlib.Omega.{arith}
 use lib.Seq.{length-take-le}
 use borrow.Author.Needs.{needs}
-use Rattle.walk.proofs.Laws.{feeds-first}
-use Rattle.walk.proofs.sheet_first.Statement.{statement}
-use Rattle.walk.proofs.sheet_first.Tie as tie
+use Rattle.loading.proofs.Laws.{feeds-first}
+use Rattle.loading.proofs.held.sheet_first.Statement.{statement}
+use Rattle.loading.proofs.held.sheet_first.Tie as tie
 
 slice-aggregate-feed-sheet : tie.Need-slice-aggregate-feed-sheet
 slice-aggregate-feed-sheet c = sym (length-take-le _ _ (omega arith))

@@ -1,8 +1,8 @@
--- `walk::turn_sheet` meets its contract. Assumes nothing.
+-- `loading::held::turn_sheet` meets its contract. Assumes nothing.
 use borrow.Author.Needs.{needs}
-use Rattle.walk.proofs.Laws.{feeds-reads}
-use Rattle.walk.proofs.turn_sheet.Statement.{statement}
-use Rattle.walk.proofs.turn_sheet.Tie as tie
+use Rattle.loading.proofs.Laws.{feeds-reads}
+use Rattle.loading.proofs.held.turn_sheet.Statement.{statement}
+use Rattle.loading.proofs.held.turn_sheet.Tie as tie
 
 fill-requires : tie.Need-fill-requires
 fill-requires c κs = search needs

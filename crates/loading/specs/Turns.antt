@@ -1,4 +1,4 @@
--- What the program's turns keep. Assumes nothing.
+-- What the turns keep. Assumes nothing.
 use mathlib.Core.Path.{_≡_}
 use mathlib.Core.Bool.{true}
 use mathlib.Core.List.{List}
@@ -7,7 +7,7 @@ use Rattle.sheet.specs.Shape.{sheetShape}
 use Rattle.given.specs.Given.{Group}
 use Rattle.house.specs.declared.Making.{Making}
 use Rattle.house.specs.Memory.{Before}
-use Rattle.walk.specs.declared.Reading.{Reading}
+use Rattle.loading.specs.declared.held.Reading.{Reading}
 
 -- n bytes fed: what the next call requires, or what the walk does
 pub record Feeds (n : ℕ) (m : Making) (w : List ℕ) (g : Group) : Type 0 where

@@ -1,13 +1,13 @@
--- `walk::walk` meets its contract. Assumes nothing.
+-- `touring::held::walk` meets its contract. Assumes nothing.
 use mathlib.Core.Path.{_≡_, _∙_}
 use Prim.Native.Nat.{_≤_}
 use lib.ListN.{length}
 use Rattle.table.specs.Tables.{table}
 use Rattle.replies.specs.Memory.{Ready}
 use borrow.Author.Needs.{needs}
-use Rattle.walk.proofs.Laws.{at-most}
-use Rattle.walk.proofs.walk.Statement.{statement}
-use Rattle.walk.proofs.walk.Tie as tie
+use Rattle.touring.proofs.Laws.{at-most}
+use Rattle.touring.proofs.held.walk.Statement.{statement}
+use Rattle.touring.proofs.held.walk.Tie as tie
 
 abbrev Inv-loop : tie.InvT-loop
 Inv-loop input₀ sheet head₀ states₀ cursors₀ matched₀ transitions₀ items₀ out₀ s₀ turns₀ input head states cursors matched transitions items out s turns =

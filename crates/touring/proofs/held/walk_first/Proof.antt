@@ -1,11 +1,11 @@
--- `walk::walk_first` meets its contract. Assumes nothing.
+-- `touring::held::walk_first` meets its contract. Assumes nothing.
 use mathlib.Core.Path.{sym}
 use native.Mathlib.Omega.{arith}
 use lib.Seq.{length-take-le}
 use borrow.Author.Needs.{needs}
-use Rattle.walk.proofs.Laws.{walked-first}
-use Rattle.walk.proofs.walk_first.Statement.{statement}
-use Rattle.walk.proofs.walk_first.Tie as tie
+use Rattle.touring.proofs.Laws.{walked-first}
+use Rattle.touring.proofs.held.walk_first.Statement.{statement}
+use Rattle.touring.proofs.held.walk_first.Tie as tie
 
 slice-aggregate-feed-walk : tie.Need-slice-aggregate-feed-walk
 slice-aggregate-feed-walk c = sym (length-take-le _ _ (omega arith))
