@@ -10,7 +10,7 @@ use borrow.Author.Tests.{le-leb}
 use Rattle.records.specs.declared.Record.{Record}
 use Rattle.records.specs.Records.{known, kindOf, sizeOf, isWhole, recordIn}
 use Rattle.records.proofs.Records.{size-some, whole-room, whole-known, whole-more, record-more, kind-more}
-use Rattle.replies.specs.Lines.{refusedLine}
+use Rattle.wording.specs.Lines.{refusedLine}
 use Rattle.house.specs.House.{Phase, Outcome, stops, leads, outcome, printing, onward, reachedIn, reached, ending, after, walkFrom}
 use Rattle.house.specs.Memory.{Refused}
 use Rattle.house.specs.Memory.Refused.{whole, unknown}

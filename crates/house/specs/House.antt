@@ -15,7 +15,7 @@ use Rattle.records.specs.Records.{sizeOf, isWhole, recordIn}
 use Rattle.records.specs.Rows.{emptyRow}
 use Rattle.gather.specs.Opened.{Open, nothing}
 use Rattle.gather.specs.Making.{sheetFaults, makingVerdict, sheetAfter, openAfter}
-use Rattle.replies.specs.Lines.{refusedLine}
+use Rattle.wording.specs.Lines.{refusedLine}
 use Rattle.replies.specs.Walking.{Walking, walking, walkingLine, walkingAfter, ends}
 
 -- How far the records have come: none yet; a sheet in the making, with what is open, its ranking and stamp; a walk

@@ -11,7 +11,7 @@ use Rattle.given.specs.Given.{Group}
 use Rattle.table.specs.Tables.{Table}
 use Rattle.records.specs.Records.{known, kindOf, isWhole, recordIn}
 use Rattle.gather.specs.Memory.{openOf, Roomy, Sound}
-use Rattle.replies.specs.Lines.{refusedLine}
+use Rattle.wording.specs.Lines.{refusedLine}
 use Rattle.replies.specs.Walking.{walking}
 use Rattle.replies.specs.Memory.{Ready}
 use Rattle.house.specs.declared.Making.{Making}

@@ -1,10 +1,11 @@
-// Offsets, and whether a record is at hand.
+// Offsets, whether a record is at hand, and whether the input is over.
 use records::held::is_known;
 use records::held::is_whole;
 use records::held::kind_of;
 ghost use mathlib.Core.Path.{_≡_};
-ghost use mathlib.Core.Bool.{cond};
+ghost use mathlib.Core.Bool.{cond, _&&_};
 ghost use Prim.Native.Nat.{_+_, _<_};
+ghost use lib.Dec.{eqb, ltb};
 ghost use Rattle.records.specs.Records.{known, kindOf, isWhole};
 
 // What stands at the front of bytes: a record (0), the beginning of one (1), or none (2).
@@ -29,4 +30,11 @@ pub fn further(offset: u64, n: usize) -> u64
         return u64::MAX;
     }
     offset + more
+}
+
+// Nothing taken and nothing more to be read: the input is over.
+pub fn is_over(at: usize, n: usize, size: usize) -> bool
+    ensures { λ r. ⌜ r ≡ (eqb at 0 && ltb n size) ⌝ }
+{
+    at == 0 && n < size
 }

@@ -22,7 +22,7 @@ use Rattle.gather.specs.declared.Taken.{Taken}
 use Rattle.gather.specs.Opened.{Open, nothing}
 use Rattle.gather.specs.Making.{makingVerdict, sheetAfter, openAfter}
 use Rattle.gather.specs.Memory.{openOf, Roomy, Sound, Takes}
-use Rattle.replies.specs.Lines.{refusedLine}
+use Rattle.wording.specs.Lines.{refusedLine}
 use Rattle.house.specs.declared.Making.{Making}
 use Rattle.house.specs.House.{first, making, stops, leads, emptySheet, firstVerdict, makingOutcome, outcome}
 use Rattle.house.specs.Memory.{phaseOf, Before, Stands}

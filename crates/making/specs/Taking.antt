@@ -7,7 +7,7 @@ use lib.Dec.{eqb}
 use Rattle.given.specs.Given.{Group}
 use Rattle.records.specs.declared.Record.{Record}
 use Rattle.records.specs.Records.{kindOf, sizeOf, recordIn}
-use Rattle.replies.specs.Lines.{refusedLine}
+use Rattle.wording.specs.Lines.{refusedLine}
 use Rattle.house.specs.declared.Making.{Making}
 use Rattle.house.specs.House.{Phase, walks, Outcome, stops, leads, built-of, outcome}
 use Rattle.house.specs.Memory.{phaseOf, Stands}

@@ -25,8 +25,8 @@ use Rattle.typed.specs.Typed.{classNumber, pseudoNumber, inputsTags, inputsRow,
 use Rattle.covered.specs.Rooms.{Proper}
 use Rattle.covered.proofs.Accepted.{row-tags}
 use Rattle.records.specs.Rows.{emptyRow, withItem, itemOver}
+use Rattle.wording.specs.Lines.{refusedLine, Said}
 use Rattle.replies.specs.declared.Replied.{Replied}
-use Rattle.replies.specs.Lines.{refusedLine, Said}
 use Rattle.replies.specs.Walking.{subjectOf, printed, itemFault, withFit}
 
 -- ---- an item, by each way through the code

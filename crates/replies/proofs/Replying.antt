@@ -43,8 +43,8 @@ use Rattle.covered.proofs.Accepted.{enter-accepts}
 use Rattle.covered.proofs.Reached.{covered-sheet, covered-shaped, covered-sound, enters-right}
 use Rattle.records.specs.declared.Record.{Record}
 use Rattle.records.specs.Rows.{emptyRow}
+use Rattle.wording.specs.Lines.{refusedLine, stateLine, changedLine, winnerLine, Said}
 use Rattle.replies.specs.declared.Replied.{Replied}
-use Rattle.replies.specs.Lines.{refusedLine, stateLine, changedLine, winnerLine, Said}
 use Rattle.replies.specs.Walking.{Walking, walking, subjectOf, printed, itemFault, withFit, enteringVerdict, enterAfter, changedRoom, changingVerdict, winningVerdict, walkingVerdict, acceptedLine, walkingLine, itemsAfter, tableAfter, ends}
 use Rattle.replies.specs.Memory.{Ready, Replies, recordOf}
 use Rattle.replies.proofs.Items.{emptied, subject-proper, proper-fits, proper-rises}

@@ -2,14 +2,14 @@
 use mathlib.Core.Path.{_≡_}
 use mathlib.Core.Bool.{Bool, true}
 use mathlib.Core.List.{List}
-use Prim.Native.Nat.{ℕ, _+_, _≤_}
+use Prim.Native.Nat.{ℕ}
 use lib.ListN.{length}
 use Rattle.selector.specs.Checks.{rowFits}
 use Rattle.table.specs.Tables.{Table}
 use Rattle.covered.specs.Covered.{Covered}
 use Rattle.records.specs.declared.Record.{Record}
+use Rattle.wording.specs.Lines.{Said}
 use Rattle.replies.specs.declared.Replied.{Replied}
-use Rattle.replies.specs.Lines.{Said}
 use Rattle.replies.specs.Walking.{Walking, walkingLine, tableAfter, itemsAfter, ends}
 
 -- what the records before have left: a table made of the sheet by calls, and a row that holds no more than was given
@@ -19,10 +19,6 @@ pub record Ready (w : List ℕ) (t : Table) (items : List ℕ) : Type 0 where
   pub matched : length (t .matched) ≡ 4096
   pub row : length items ≡ 38
   pub fits : rowFits 16 items 0 ≡ true
-
--- room for the longest line: 4,096 numbers of 20 digits, each after a space, and the words before them
-abbrev pub Room : ℕ → List ℕ → Type 0
-Room at out = at + 87000 ≤ length out
 
 -- a record of this kind with these numbers
 abbrev pub recordOf : ℕ → ℕ → ℕ → Record

@@ -14,7 +14,7 @@ use Rattle.looking.specs.Calls.{rulesAt, winnerIn}
 use Rattle.cascade.specs.Calls.{changedIn, changedVerdict}
 use Rattle.records.specs.declared.Record.{Record}
 use Rattle.records.specs.Rows.{emptyRow, withItem, itemOver}
-use Rattle.replies.specs.Lines.{refusedLine, stateLine, changedLine, winnerLine}
+use Rattle.wording.specs.Lines.{refusedLine, stateLine, changedLine, winnerLine}
 
 -- The sheet, the table, and "the items since the last enter", as given, in a subject's row
 pub record Walking : Type 0 where

@@ -1,6 +1,5 @@
 // For callers that hold the sheet and the table to what the calls before have left, and lend room for a line.
 use crate::Replied;
-use crate::say;
 use cascade::held::changed_properties;
 use entering::held::enter_subject;
 use lent::words::copy_into;
@@ -28,9 +27,9 @@ ghost use Rattle.cascade.specs.Calls.{changedIn};
 ghost use Rattle.covered.specs.Covered.{Covered};
 ghost use Rattle.records.specs.Records.{Narrow};
 ghost use Rattle.records.specs.Rows.{emptyRow};
-ghost use Rattle.replies.specs.Lines.{refusedLine, Said};
+ghost use Rattle.wording.specs.Lines.{refusedLine, Said, Room};
 ghost use Rattle.replies.specs.Walking.{walking, subjectOf, printed, itemFault, withFit, enterAfter, walkingLine};
-ghost use Rattle.replies.specs.Memory.{Ready, Room, Replies, recordOf};
+ghost use Rattle.replies.specs.Memory.{Ready, Replies, recordOf};
 
 // ---- 9
 
@@ -85,7 +84,7 @@ fn take_enter(
     let row = owned_row(items);
     copy_into(items, 0, &[0u32; 38]);
     if word(head, layout::STATES) <= parent {
-        return say::refused(out, at, 4, offset);
+        return wording::held::refused(out, at, 4, offset);
     }
     let settled = enter_subject(
         sheet,
@@ -98,8 +97,13 @@ fn take_enter(
         &row,
     );
     match settled {
-        Settled::At(child) => say::state(out, at, child, matching_rules(states, matched, child)),
-        Settled::NoRoom => say::refused(out, at, 5, offset),
+        Settled::At(child) => wording::held::state(
+            out,
+            at,
+            child,
+            matching_rules(states, matched, child),
+        ),
+        Settled::NoRoom => wording::held::refused(out, at, 5, offset),
     }
 }
 
@@ -157,10 +161,10 @@ fn take_changed(
 {
     let count = word(head, layout::STATES);
     if count <= old {
-        return say::refused(out, at, 4, offset);
+        return wording::held::refused(out, at, 4, offset);
     }
     if count <= new {
-        return say::refused(out, at, 4, offset);
+        return wording::held::refused(out, at, 4, offset);
     }
     let mut list = [0u32; 4096];
     let n = changed_words(
@@ -174,7 +178,7 @@ fn take_changed(
         new,
         &mut list,
     );
-    say::changed(out, at, &list[..n])
+    wording::held::changed(out, at, &list[..n])
 }
 
 // ---- 12
@@ -199,7 +203,7 @@ fn take_winner(
     ensures { λ r. ⌜ Said (walkingLine (walking (now (sheet .entry)) (table (now (head .entry)) (now (states .entry)) (now (cursors .entry)) (now (matched .entry)) (now (transitions .entry))) (now (items .entry))) offset (recordOf 12 state property)) (now (out .entry)) at r (now (out .exit)) ⌝ }
 {
     if word(head, layout::STATES) <= state {
-        return say::refused(out, at, 4, offset);
+        return wording::held::refused(out, at, 4, offset);
     }
     let best = winning_source(
         sheet,
@@ -211,7 +215,7 @@ fn take_winner(
         state,
         half(property),
     );
-    say::winner(out, at, property, best)
+    wording::held::winner(out, at, property, best)
 }
 
 // ---- any
@@ -236,7 +240,7 @@ fn reply_item(
             ends: false,
         };
     }
-    let used = say::refused(out, at, v, offset);
+    let used = wording::held::refused(out, at, v, offset);
     Replied {
         used,
         ends: v == 10,
@@ -247,7 +251,7 @@ fn misplaced(out: &mut [u8], at: usize, offset: u64) -> Replied
     requires { ⌜ Room at (now out) ⌝ }
     ensures { λ r. ⌜ Said (refusedLine 10 offset) (now (out .entry)) at (r .used) (now (out .exit)) × (r .ends ≡ true) ⌝ }
 {
-    let used = say::refused(out, at, 10, offset);
+    let used = wording::held::refused(out, at, 10, offset);
     Replied { used, ends: true }
 }
 
@@ -322,12 +326,4 @@ pub fn reply(
         )),
         _ => misplaced(out, at, offset),
     }
-}
-
-// A refusal's line.
-pub fn refuse(out: &mut [u8], at: usize, verdict: u32, offset: u64) -> usize
-    requires { ⌜ Room at (now out) ⌝ }
-    ensures { λ r. ⌜ Said (refusedLine verdict offset) (now (out .entry)) at r (now (out .exit)) ⌝ }
-{
-    say::refused(out, at, verdict, offset)
 }

@@ -1,6 +1,5 @@
 // Records 9 to 12 answered, as lines in a lent buffer.
 pub mod held;
-mod say;
 
 // Where the next line goes, and whether the program ends.
 pub struct Replied {

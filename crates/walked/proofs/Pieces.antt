@@ -10,7 +10,7 @@ use Rattle.given.specs.Given.{Group}
 use Rattle.table.specs.Tables.{Table}
 use Rattle.records.specs.Records.{isWhole}
 use Rattle.gather.specs.Memory.{openOf}
-use Rattle.replies.specs.Lines.{refusedLine}
+use Rattle.wording.specs.Lines.{refusedLine}
 use Rattle.replies.specs.Walking.{walking}
 use Rattle.house.specs.declared.Making.{Making}
 use Rattle.house.specs.House.{Phase, first, making, walks, built-of, ending, walkFrom, walkOf}

@@ -23,7 +23,7 @@ use Rattle.records.specs.Records.{sizeOf, isWhole, recordIn}
 use Rattle.records.specs.Rows.{emptyRow}
 use Rattle.gather.specs.Opened.{Open, nothing}
 use Rattle.gather.specs.Making.{makingVerdict, sheetAfter, openAfter}
-use Rattle.replies.specs.Lines.{refusedLine, stateLine, changedLine, winnerLine}
+use Rattle.wording.specs.Lines.{refusedLine, stateLine, changedLine, winnerLine}
 use Rattle.replies.specs.Walking.{Walking, walking, subjectOf, printed, itemFault, enteringVerdict, childIn, enteredIn, enterAfter, changingVerdict, winningVerdict, walkingVerdict, acceptedLine, walkingLine, itemsAfter, tableAfter, walkingAfter, ends}
 use Rattle.house.specs.House.{Phase, first, making, walks, emptySheet, lentTable, Outcome, stops, leads, unless, firstVerdict, built-of, makingOutcome, outcome, printing, onward, reachedIn, ending, after, walkOf}
 use Rattle.walked.proofs.Never.{changed-is-pair}

@@ -9,7 +9,7 @@ use Rattle.table.specs.Tables.{Table}
 use Rattle.table.specs.Entering.{built}
 use Rattle.records.specs.Records.{isWhole}
 use Rattle.records.specs.Rows.{emptyRow}
-use Rattle.replies.specs.Lines.{refusedLine}
+use Rattle.wording.specs.Lines.{refusedLine}
 use Rattle.house.specs.declared.Making.{Making}
 use Rattle.house.specs.declared.Walked.{Walked}
 use Rattle.house.specs.House.{lentTable}

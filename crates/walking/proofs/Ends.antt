@@ -5,7 +5,7 @@ use Prim.Native.Nat.{ℕ}
 use native.Mathlib.Decide.{ℕ-discrete}
 use borrow.Author.Tests.{eq-eqb, ne-eqb, eqb-true}
 use Rattle.records.specs.declared.Record.{Record}
-use Rattle.replies.specs.Lines.{refusedLine}
+use Rattle.wording.specs.Lines.{refusedLine}
 use Rattle.replies.specs.Walking.{Walking, itemFault, withFit, walkingVerdict, walkingLine, itemsAfter, tableAfter, ends}
 use Rattle.replies.proofs.Replying.{enter-not-ten}
 

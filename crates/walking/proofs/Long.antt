@@ -16,10 +16,10 @@ use Rattle.table.specs.Calls.{broken, notAState}
 use Rattle.looking.specs.Calls.{rulesAt, winnerIn}
 use Rattle.cascade.specs.Calls.{changedIn, changedVerdict}
 use Rattle.records.specs.declared.Record.{Record}
-use Rattle.replies.specs.Lines.{decimal, spaced, listed, REFUSED, AT, STATE, MATCHED, CHANGED, WINNER, DIRECT, RULE, SOURCE, END, refusedLine, stateLine, changedLine, sourceText, winnerLine}
+use Rattle.wording.specs.Lines.{decimal, spaced, listed, REFUSED, AT, STATE, MATCHED, CHANGED, WINNER, DIRECT, RULE, SOURCE, END, refusedLine, stateLine, changedLine, sourceText, winnerLine}
 use Rattle.replies.specs.Walking.{Walking, walking, printed, stampOf, itemFault, enteringVerdict, childIn, enteredIn, changedRoom, changingVerdict, winningVerdict, walkingVerdict, acceptedLine, walkingLine}
 use Rattle.replies.specs.Memory.{Ready}
-use Rattle.replies.proofs.Decimal.{decimal-short}
+use Rattle.wording.proofs.Decimal.{decimal-short}
 use Rattle.replies.proofs.Replying.{list-few}
 use Rattle.walking.proofs.Rows.{ready-tabled, entered-tabled}
 

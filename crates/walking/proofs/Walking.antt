@@ -13,10 +13,10 @@ use Rattle.table.specs.Tables.{Table}
 use Rattle.records.specs.declared.Record.{Record}
 use Rattle.records.specs.Records.{known, kindOf, sizeOf, isWhole, recordIn}
 use Rattle.records.proofs.Records.{size-some, whole-room}
-use Rattle.replies.specs.Lines.{refusedLine, Said}
+use Rattle.wording.specs.Lines.{refusedLine, Said, Room}
 use Rattle.replies.specs.Walking.{Walking, walking, walkingLine, walkingAfter, ends}
 use Rattle.replies.specs.declared.Replied.{Replied}
-use Rattle.replies.specs.Memory.{Ready, Room, Replies}
+use Rattle.replies.specs.Memory.{Ready, Replies}
 use Rattle.house.specs.declared.Walked.{Walked}
 use Rattle.house.specs.House.{walks, outcome, stops, leads, printing, reachedIn, reached}
 use Rattle.house.specs.Memory.{Refused, WalkedSoFar, FedWalk}

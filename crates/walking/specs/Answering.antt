@@ -6,8 +6,8 @@ use Prim.Native.Nat.{ℕ, _+_, _≤_, _<_}
 use lib.ListN.{length, drop}
 use Rattle.table.specs.Tables.{Table}
 use Rattle.records.specs.Records.{known, kindOf, sizeOf, isWhole, recordIn}
+use Rattle.wording.specs.Lines.{refusedLine, Said}
 use Rattle.replies.specs.declared.Replied.{Replied}
-use Rattle.replies.specs.Lines.{refusedLine, Said}
 use Rattle.replies.specs.Walking.{walking}
 use Rattle.replies.specs.Memory.{Replies}
 use Rattle.house.specs.declared.Walked.{Walked}

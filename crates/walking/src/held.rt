@@ -7,15 +7,16 @@ use records::held::kind_of;
 use records::held::record_in;
 use records::held::size_of;
 use replies::Replied;
-use replies::held::refuse;
 use replies::held::reply;
+use wording::held::refused;
 ghost use mathlib.Core.Path.{_≡_};
 ghost use mathlib.Core.Bool.{true};
 ghost use Prim.Native.Nat.{_+_, _<_};
 ghost use lib.ListN.{length};
 ghost use Rattle.table.specs.Tables.{table};
 ghost use Rattle.records.specs.Records.{known, kindOf, isWhole};
-ghost use Rattle.replies.specs.Memory.{Ready, Room};
+ghost use Rattle.wording.specs.Lines.{Room};
+ghost use Rattle.replies.specs.Memory.{Ready};
 ghost use Rattle.house.specs.Memory.{FedWalk};
 ghost use Rattle.walking.specs.Answering.{PastReply, Answers, Steps, Awaits};
 
@@ -120,7 +121,7 @@ fn step(
             out,
         );
     }
-    let used = refuse(out, w.used, 10, w.offset);
+    let used = refused(out, w.used, 10, w.offset);
     Walked {
         used,
         ends: true,

@@ -39,14 +39,14 @@ same-length-7 c = search needs
 returns : tie.Need-returns
 returns c = answered (known-whole _ (c .before .before .before .before .before .before .before .before .before .before .before .before .before .before .before .before .before .before .before .before .before .before .before .before .kind-of .result) (c .before .before .before .before .before .before .before .before .before .before .before .before .before .before .before .before .before .before .before .before .before .before .before .is-known .result) (c .before .before .before .before .before .before .before .before .before .before .before .before .before .before .before .before .before .before .before .before .before .before .before .before .before .before .before .before .before .before .before .before .before .before .pre .1 .0) (c .before .before .before .before .before .before .before .before .before .before .before .before .before .before .before .before .before .before .before .before .before .before .before .before .kind-of .ensures .0) (c .before .before .before .before .before .before .before .before .before .before .before .before .before .before .before .before .before .before .before .before .before .before .before .is-known .ensures) (c .before .before .before .before .before .before .before .before .before .before .before .before .before .before .before .before .before .before .before .before .before .before .if1 .taken)) (c .before .before .before .before .before .before .before .before .before .before .before .before .before .before .answer-front .ensures)
 
-refuse-requires : tie.Need-refuse-requires
-refuse-requires c κs = c .before .before .before .before .before .before .before .before .before .before .before .before .before .pre .1 .1
+refused-requires : tie.Need-refused-requires
+refused-requires c κs = c .before .before .before .before .before .before .before .before .before .before .before .before .before .pre .1 .1
 
 same-length-8 : tie.Need-same-length-8
 same-length-8 c = search needs
 
 returns-2 : tie.Need-returns-2
-returns-2 c = refused (not-known (c .before .before .before .before .before .before .before .before .before .before .before .before .before .before .before .before .args .rest .now) (c .before .before .before .before .before .before .kind-of .result) (c .before .before .before .before .before .is-known .result) (c .before .before .before .before .before .before .kind-of .ensures .0) (c .before .before .before .before .before .is-known .ensures) (c .before .before .before .before .if1 .left)) (c .before .before .refuse .ensures) (refl, refl, refl) (refl, refl)
+returns-2 c = refused (not-known (c .before .before .before .before .before .before .before .before .before .before .before .before .before .before .before .before .args .rest .now) (c .before .before .before .before .before .before .kind-of .result) (c .before .before .before .before .before .is-known .result) (c .before .before .before .before .before .before .kind-of .ensures .0) (c .before .before .before .before .before .is-known .ensures) (c .before .before .before .before .if1 .left)) (c .before .before .refused .ensures) (refl, refl, refl) (refl, refl)
 
 pub step-spec : {M : Type 1} → statement M
 step-spec =
@@ -63,6 +63,6 @@ step-spec =
     same-length-6
     same-length-7
     returns
-    refuse-requires
+    refused-requires
     same-length-8
     returns-2)

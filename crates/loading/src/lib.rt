@@ -1,0 +1,2 @@
+// The sheet's part of standard input, read in pieces.
+pub mod held;

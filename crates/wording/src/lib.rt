@@ -1,0 +1,2 @@
+// The lines of answers, laid into a lent buffer.
+pub mod held;
