@@ -12,8 +12,8 @@ use borrow.Author.Tests.{lt-ltb, le-ltb, ltb-true, ltb-false}
 use Rattle.theory.specs.Lists.{_∈_, ascends, sort}
 use Rattle.theory.specs.States.{State, root, enter}
 use Rattle.theory.proofs.Lists.{append-in, or-cases, or-first, or-second}
-use Rattle.lent.specs.Buffers.{Holds}
-use Rattle.lent.proofs.Buffers.{held-take}
+use Rattle.idset.specs.Buffers.{Holds}
+use Rattle.idset.proofs.Buffers.{held-take}
 use Rattle.selector.specs.Tags.{Tags, stepMatches}
 use Rattle.table.specs.Tables.{selectorsOf}
 use Rattle.advance.specs.Advancing.{leaves, lists, Advanced, Room}

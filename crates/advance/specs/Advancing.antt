@@ -4,7 +4,7 @@ use Prim.Native.Nat.{ℕ, _+_, _≤_}
 use lib.ListN.{length}
 use Rattle.theory.specs.Lists.{sort}
 use Rattle.theory.specs.States.{leavesOf, listsOf}
-use Rattle.lent.specs.Buffers.{Holds}
+use Rattle.idset.specs.Buffers.{Holds}
 use Rattle.selector.specs.Tags.{Tags, stepMatches}
 use Rattle.table.specs.Tables.{selectorsOf}
 

@@ -9,7 +9,7 @@ use winners::Best;
 ghost use mathlib.Core.Path.{_≡_};
 ghost use mathlib.Core.Bool.{true};
 ghost use Prim.Native.Nat.{_<_};
-ghost use Rattle.lent.specs.Buffers.{Holds};
+ghost use Rattle.idset.specs.Buffers.{Holds};
 ghost use Rattle.selector.specs.Rows.{rowAt};
 ghost use Rattle.selector.specs.Checks.{rowFits, tagsAscend};
 ghost use Rattle.sheet.specs.Shape.{sheetShape};

@@ -7,11 +7,11 @@ use native.Mathlib.Omega.{arith}
 use lib.ListN.{length, take}
 use lib.Seq.{sets}
 use borrow.Author.Tests.{lt-ltb, le-ltb, le-leb, lt-leb, ne-eqb}
-use Rattle.lent.specs.Buffers.{Holds}
+use Rattle.idset.specs.Buffers.{Holds}
 use Rattle.lent.specs.Refusals.{told, firstOf}
 use Rattle.lent.specs.declared.Refusal.{Refusal}
 use Rattle.lent.specs.declared.Refusal.the-variants.{BrokenShape, CodeOutOfRange, NoRoom}
-use Rattle.lent.proofs.Buffers.{held-take}
+use Rattle.idset.proofs.Buffers.{held-take}
 use Rattle.sheet.specs.Shape.{sheetShape}
 use Rattle.table.specs.Tables.{table}
 use Rattle.table.specs.Entering.{rootsOf, rootLacksRoom, builtHead, built}

@@ -1,7 +1,7 @@
 // Nothing is required of the table: along whatever chain its words say.
+use idset::compare;
 use lent::held::part;
 use lent::lists::cell;
-use lent::sets::compare;
 use lent::words::wide;
 use lent::words::word;
 use table::layout;

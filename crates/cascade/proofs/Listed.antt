@@ -2,7 +2,7 @@
 use mathlib.Core.Path.{_≡_}
 use mathlib.Core.List.{List}
 use Prim.Native.Nat.{ℕ}
-use Rattle.lent.specs.Buffers.{Holds}
+use Rattle.idset.specs.Buffers.{Holds}
 use Rattle.lent.specs.Pool.{endsIn, listAt}
 use Rattle.table.specs.Tables.{table, rankingIn}
 use Rattle.changes.specs.Changes.{changedOf}

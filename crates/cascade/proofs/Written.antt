@@ -8,10 +8,10 @@ use lib.Seq.{sets}
 use borrow.Author.Tests.{ne-eqb}
 use Rattle.theory.specs.Lists.{sort}
 use Rattle.theory.proofs.Lists.{sort-ascending}
-use Rattle.lent.specs.Buffers.{Holds}
+use Rattle.idset.specs.Buffers.{Holds}
 use Rattle.lent.specs.Refusals.{refusalOf, Check, check, firstOf}
 use Rattle.lent.specs.declared.Refusal.{Refusal}
-use Rattle.lent.proofs.Buffers.{held-take}
+use Rattle.idset.proofs.Buffers.{held-take}
 use Rattle.lent.proofs.Refusals.{first-stop, first-go, told-first}
 use Rattle.sheet.specs.Shape.{sheetShape}
 use Rattle.table.specs.Tables.{table}

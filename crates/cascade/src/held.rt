@@ -5,7 +5,7 @@ use table::layout;
 ghost use mathlib.Core.Path.{_≡_};
 ghost use mathlib.Core.Bool.{true};
 ghost use Prim.Native.Nat.{_<_};
-ghost use Rattle.lent.specs.Buffers.{Holds};
+ghost use Rattle.idset.specs.Buffers.{Holds};
 ghost use Rattle.sheet.specs.Shape.{sheetShape};
 ghost use Rattle.table.specs.Tables.{table, statesIn};
 ghost use Rattle.table.specs.Shape.{tableShape};

@@ -12,8 +12,8 @@ use Rattle.theory.specs.Lists.{Ascending, ascends, insert, sort, member}
 use Rattle.theory.proofs.Lists.{append-in, flatMap-append, ascends-is, sort-in, sort-ascending, insert-length}
 use Rattle.theory.proofs.Spreads.{flatMap-one}
 use Rattle.lent.specs.Pool.{listAt}
-use Rattle.lent.specs.Buffers.{Holds}
-use Rattle.lent.proofs.Buffers.{held-take, held-length, held-then}
+use Rattle.idset.specs.Buffers.{Holds}
+use Rattle.idset.proofs.Buffers.{held-take, held-length, held-then}
 use Rattle.sheet.specs.Layout.{ENTRY}
 use Rattle.sheet.specs.Sheets.{ruleEntryEnds}
 use Rattle.changeset.proofs.Marks.{sort-ext, sort-ascended}

@@ -11,8 +11,8 @@ use mir.Syntax.{w16}
 use mir.Val.{Fits}
 use Rattle.theory.specs.Lists.{atMost}
 use Rattle.theory.proofs.Spreads.{at-most-at}
-use Rattle.lent.specs.Buffers.{Holds}
-use Rattle.lent.proofs.Buffers.{held-length}
+use Rattle.idset.specs.Buffers.{Holds}
+use Rattle.idset.proofs.Buffers.{held-length}
 use Rattle.changes.specs.Asked.{keep}
 use Rattle.changes.proofs.Keep.{keep-append, keep-length}
 

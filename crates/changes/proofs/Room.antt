@@ -9,9 +9,9 @@ use Rattle.theory.specs.Lists.{_∈_, Ascending, ascendsFrom, ascends, atMost, 
 use Rattle.theory.proofs.Lists.{T-is, ascends-is, member-is, flatMap-append, ascending-select, sort-length, sort-ascending}
 use Rattle.theory.proofs.Spreads.{flatMap-one, at-most-intro}
 use Rattle.lent.specs.Pool.{startOf, listAt}
-use Rattle.lent.specs.Buffers.{Holds}
+use Rattle.idset.specs.Buffers.{Holds}
 use Rattle.lent.proofs.Pool.{Rising}
-use Rattle.lent.proofs.Buffers.{held-take, held-length}
+use Rattle.idset.proofs.Buffers.{held-take, held-length}
 use Rattle.sheet.specs.Layout.{rulesIn}
 use Rattle.sheet.specs.Sheets.{ruleEntryEnds}
 use Rattle.sheet.specs.Shape.{sheetShape}

@@ -1,7 +1,7 @@
 // For callers that hold the sheet to its shape already.
 use changeset::held::mark;
-use lent::held::contains;
-use lent::held::insert;
+use idset::held::contains;
+use idset::held::insert;
 use lent::held::list_of;
 use lent::held::rest;
 use lent::words::wide;
@@ -16,7 +16,7 @@ ghost use Prim.Native.Nat.{ℕ, _+_, _≤_, _<_};
 ghost use lib.ListN.{length, take, getD};
 ghost use Rattle.theory.specs.Lists.{ascends, atMost, sort, spread};
 ghost use Rattle.theory.specs.Cascade.{sameKey};
-ghost use Rattle.lent.specs.Buffers.{Holds};
+ghost use Rattle.idset.specs.Buffers.{Holds};
 ghost use Rattle.sheet.specs.Sheets.{entryAt};
 ghost use Rattle.sheet.specs.Shape.{sheetShape};
 ghost use Rattle.winners.specs.Winners.{winningKeyOf, AreRules};

@@ -13,8 +13,8 @@ use borrow.Author.Tests.{eq-eqb, ne-eqb}
 use Rattle.theory.specs.Lists.{sort, spread}
 use Rattle.theory.proofs.Lists.{sort-length}
 use Rattle.theory.proofs.Spreads.{map-spread, spread-same, part-spread, spread-list}
-use Rattle.lent.specs.Buffers.{Holds}
-use Rattle.lent.proofs.Buffers.{held-length}
+use Rattle.idset.specs.Buffers.{Holds}
+use Rattle.idset.proofs.Buffers.{held-length}
 use Rattle.selector.specs.Rows.{tagOf, tagNumber, wordsFrom, rowAt, combOf}
 use Rattle.selector.specs.Checks.{rowFits}
 use Rattle.selector.specs.Weighing.{isSet}

@@ -1,6 +1,6 @@
 // For the pushes, which hold what is required already: rows, entries and counts written, and what is counted for them.
 use crate::Counts;
-use lent::held::from_ids;
+use idset::held::from_ids;
 use lent::words::copy_into;
 use lent::words::wide;
 use lent::words::widen_into;

@@ -1,5 +1,5 @@
 // The key of a source, and how two keys compare: `CascadeEntryKey` of matcher.rs.
-use lent::sets::compare;
+use idset::compare;
 use selector::Specificity;
 ghost use mathlib.Core.Path.{_≡_};
 ghost use Rattle.theory.specs.Cascade.{keyNumbers, compareKeys};

@@ -1,11 +1,5 @@
 pub mod All
 pub mod Refusals
-pub mod Ascending
-pub mod AtMost
-pub mod Search
-pub mod Walk
-pub mod Buffers
-pub mod Insertion
 pub mod Copying
 pub mod Placing
 pub mod Pool

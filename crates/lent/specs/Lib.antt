@@ -1,4 +1,3 @@
 pub mod All
 pub mod Refusals
 pub mod Pool
-pub mod Buffers

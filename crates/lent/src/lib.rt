@@ -4,7 +4,6 @@ ghost use Rattle.lent.specs.Refusals.{numberOf, refusalOf};
 
 pub mod held;
 pub mod lists;
-pub mod sets;
 pub mod words;
 
 // 01, "Numbers given back on refusal": a case for each number, in the table's order.

@@ -5,8 +5,8 @@ use native.Mathlib.Omega.{arith}
 use lib.ListN.{length, length-append}
 use Rattle.theory.specs.Lists.{sort}
 use Rattle.theory.proofs.Lists.{sort-ascending, sort-length, ascends-is}
-use Rattle.lent.specs.Buffers.{Holds}
-use Rattle.lent.proofs.Buffers.{held-take}
+use Rattle.idset.specs.Buffers.{Holds}
+use Rattle.idset.proofs.Buffers.{held-take}
 use Rattle.replay.specs.Sets.{Set}
 
 pub set-held : (given before after : List ℕ) (n : ℕ) → length given ≤ 4096 → Holds (sort given) before n after → Set after n

@@ -2,9 +2,9 @@
 use crate::say::sign;
 use crate::say::verdict;
 use crate::say::wide;
-use lent::held;
-use lent::sets::compare;
-use lent::sets::is_ascending;
+use idset::compare;
+use idset::held;
+use idset::is_ascending;
 use lines::text;
 use property::PropertyId;
 use screen::labelled;

@@ -10,9 +10,9 @@ use lib.Seq.{sets, sets-eq, take-at}
 use lib.Dec.{eqb}
 use borrow.Author.Tests.{lt-ltb, le-ltb, eq-eqb, ne-eqb}
 use Rattle.lent.specs.Pool.{listAt}
-use Rattle.lent.specs.Buffers.{Holds}
+use Rattle.idset.specs.Buffers.{Holds}
 use Rattle.lent.specs.Refusals.{refusalOf, Check, firstOf}
-use Rattle.lent.proofs.Buffers.{held-take}
+use Rattle.idset.proofs.Buffers.{held-take}
 use Rattle.lent.proofs.Refusals.{named, told-first}
 use Rattle.selector.specs.Rows.{rowAt}
 use Rattle.selector.specs.Checks.{rowFits, tagsAscend}

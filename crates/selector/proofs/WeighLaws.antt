@@ -14,7 +14,7 @@ use Rattle.theory.specs.Lists.{sort, spread}
 use Rattle.theory.specs.Weight.{Counts, total}
 use Rattle.theory.proofs.Lists.{and-left, and-right, sort-length}
 use Rattle.lent.specs.All.{allBelow}
-use Rattle.lent.specs.Buffers.{Holds}
+use Rattle.idset.specs.Buffers.{Holds}
 use Rattle.lent.specs.Refusals.{told, refusalOf}
 use Rattle.lent.specs.declared.Refusal.{Refusal}
 use Rattle.lent.proofs.All.{all-at}

@@ -1,6 +1,6 @@
 // Subjects and steps as lent rows of words. A subject row has 38: type flag, type, part flag, part, class count, pseudo count, 16 classes,
 // 16 pseudos; a step row 22, with 8 and 8. A flag that isn't 0 means set.
-use lent::sets::is_ascending;
+use idset::is_ascending;
 use lent::words::wide;
 use lent::words::word;
 ghost use mathlib.Core.Path.{_≡_};
@@ -68,7 +68,7 @@ fn all_in(given: &[u32], set: &[u32]) -> bool
 {
     let mut i = 0;
     while i < given.len() {
-        if !lent::held::contains(set, given[i]) {
+        if !idset::held::contains(set, given[i]) {
             return false;
         }
         i += 1;

@@ -1,13 +1,13 @@
 // The test of a sheet's shape, clause by clause.
 use crate::layout;
+use idset::at_most;
+use idset::is_ascending;
 use lent::held::list_of;
 use lent::held::part;
 use lent::held::rest;
 use lent::lists::Column;
 use lent::lists::cell;
 use lent::lists::start_of;
-use lent::sets::at_most;
-use lent::sets::is_ascending;
 use lent::words::wide;
 use lent::words::word;
 use selector::held::ids;

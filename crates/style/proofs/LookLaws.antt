@@ -12,8 +12,8 @@ use lib.Dec.{ltb, eqb}
 use borrow.Author.Tests.{lt-ltb, le-ltb, ltb-false, eq-eqb, ne-eqb, eqb-true, eqb-false, not-false}
 use Rattle.theory.specs.Lists.{ascends, member, spread}
 use Rattle.theory.proofs.Lists.{le-or-lt}
-use Rattle.lent.specs.Buffers.{rank}
-use Rattle.lent.proofs.Search.{rank-skip, rank-here, found-at, found-out}
+use Rattle.idset.specs.Buffers.{rank}
+use Rattle.idset.proofs.Search.{rank-skip, rank-here, found-at, found-out}
 use Rattle.style.specs.Entries.{Entry, entriesOf, lookUp}
 use Rattle.style.specs.Checks.{propertiesOff}
 use Rattle.style.specs.Looking.{placeOf, found}

@@ -2,9 +2,9 @@
 use crate::ResourceKey;
 use crate::StyleValueKind;
 use crate::StyleValueRef;
-use lent::held::lower_bound;
-use lent::sets::at_most;
-use lent::sets::is_ascending;
+use idset::at_most;
+use idset::held::lower_bound;
+use idset::is_ascending;
 use lent::words::widen_into;
 ghost use mathlib.Core.Path.{_≡_};
 ghost use mathlib.Core.Bool.{false};

@@ -16,9 +16,9 @@ use borrow.Author.Tests.{lt-ltb}
 use Rattle.theory.specs.Lists.{spread, only, compare}
 use Rattle.theory.specs.States.{cursor, starts}
 use Rattle.theory.proofs.Spreads.{length-spread, spread-snoc}
-use Rattle.lent.specs.Buffers.{Holds}
+use Rattle.idset.specs.Buffers.{Holds}
 use Rattle.lent.specs.Pool.{startOf}
-use Rattle.lent.proofs.Buffers.{held-take, held-length}
+use Rattle.idset.proofs.Buffers.{held-take, held-length}
 use Rattle.sheet.specs.Layout.{rulesIn}
 use Rattle.sheet.specs.Sheets.{partAt, between, ruleStepEnds}
 use Rattle.sheet.specs.Shape.{sheetShape}

@@ -7,7 +7,7 @@ ghost use mathlib.Core.Path.{_≡_};
 ghost use mathlib.Core.Bool.{true};
 ghost use Prim.Native.Nat.{_≤_};
 ghost use lib.ListN.{length};
-ghost use Rattle.lent.specs.Buffers.{Holds};
+ghost use Rattle.idset.specs.Buffers.{Holds};
 ghost use Rattle.sheet.specs.Shape.{sheetShape};
 ghost use Rattle.table.specs.Tables.{selectorsOf};
 ghost use Rattle.theory.specs.States.{starts};

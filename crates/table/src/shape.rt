@@ -1,11 +1,11 @@
 // The test of a table's shape, clause by clause.
 use crate::held::roots;
 use crate::layout;
+use idset::compare;
+use idset::is_ascending;
 use lent::held::list_of;
 use lent::lists::cell;
 use lent::lists::start_of;
-use lent::sets::compare;
-use lent::sets::is_ascending;
 use lent::words::wide;
 use lent::words::word;
 use sheet::shape::end_to_end;

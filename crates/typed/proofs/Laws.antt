@@ -13,7 +13,7 @@ use borrow.Author.Tests.{lt-ltb, le-ltb}
 use Rattle.theory.specs.Lists.{sort, spread}
 use Rattle.theory.proofs.Lists.{sort-length}
 use Rattle.theory.proofs.Spreads.{length-spread, take-spread}
-use Rattle.lent.specs.Buffers.{Holds}
+use Rattle.idset.specs.Buffers.{Holds}
 use Rattle.lent.specs.Refusals.{firstOf}
 use Rattle.lent.specs.declared.Refusal.the-variants.{OverSize}
 use Rattle.typed.specs.declared.ClassId.{ClassId}

@@ -348,8 +348,8 @@ fn sorted_row(given: [u32; 38]) -> [u32; 38]
 {
     let mut classes = [0u32; 16];
     let mut pseudos = [0u32; 16];
-    let class_count = lent::held::from_ids(ids(&given, 6, 4), &mut classes);
-    let pseudo_count = lent::held::from_ids(ids(&given, 22, 5), &mut pseudos);
+    let class_count = idset::held::from_ids(ids(&given, 6, 4), &mut classes);
+    let pseudo_count = idset::held::from_ids(ids(&given, 22, 5), &mut pseudos);
     let mut row = [0u32; 38];
     row[4] = class_count as u32;
     row[5] = pseudo_count as u32;

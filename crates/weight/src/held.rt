@@ -20,7 +20,7 @@ fn different(given: &[u32]) -> u32
     ensures { λ r. ⌜ r ≡ length (sort (now (given .entry))) ⌝ }
 {
     let mut set = [0u32; 8];
-    lent::held::from_ids(given, &mut set) as u32
+    idset::held::from_ids(given, &mut set) as u32
 }
 
 // 1 where the tag whose flag is the word at `at` is set.

@@ -11,9 +11,9 @@ use borrow.Author.Tests.{eq-eqb, ne-eqb, ltb-true}
 use Rattle.theory.specs.Lists.{spread, ascends, member}
 use Rattle.theory.proofs.Lists.{le-or-lt}
 use Rattle.theory.proofs.Spreads.{length-spread}
-use Rattle.lent.specs.Buffers.{rank}
+use Rattle.idset.specs.Buffers.{rank}
 use Rattle.lent.specs.Pool.{endsIn, startOf, listAt}
-use Rattle.lent.proofs.Search.{rank-skip, rank-here, found-at, found-out}
+use Rattle.idset.proofs.Search.{rank-skip, rank-here, found-at, found-out}
 use Rattle.style.specs.Entries.{Entry, lookUp}
 use Rattle.sheet.specs.Layout
 use Rattle.sheet.specs.Sheets.{between, entryAt, styleEntryEnds, ruleEntryEnds, styleAt, ruleAt}

@@ -1,12 +1,12 @@
 // For callers that hold the sheet to its shape already.
 use crate::Best;
 use crate::Found;
+use idset::held::contains;
+use idset::held::lower_bound;
 use keys::CascadeEntryKey;
 use keys::held::rule_key;
 use keys::held::style_key;
-use lent::held::contains;
 use lent::held::list_of;
-use lent::held::lower_bound;
 use lent::held::rest;
 use lent::lists::Column;
 use lent::lists::start_of;

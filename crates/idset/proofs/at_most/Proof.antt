@@ -1,9 +1,9 @@
 use Prim.Native.Nat.{_-_}
 use lib.ListN.{length}
 use borrow.Author.Needs.{needs}
-use Rattle.lent.proofs.AtMost.{Below, below-start, below-stop, below-next, below-end}
-use Rattle.lent.proofs.sets.at_most.Statement.{statement}
-use Rattle.lent.proofs.sets.at_most.Tie as tie
+use Rattle.idset.proofs.AtMost.{Below, below-start, below-stop, below-next, below-end}
+use Rattle.idset.proofs.at_most.Statement.{statement}
+use Rattle.idset.proofs.at_most.Tie as tie
 
 abbrev Inv-loop : tie.InvT-loop
 Inv-loop numbers limit i₀ i = Below limit numbers i

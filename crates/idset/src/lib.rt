@@ -2,6 +2,8 @@
 ghost use mathlib.Core.Path.{_≡_};
 ghost use Rattle.theory.specs.Lists.{ascends, atMost, compare};
 
+pub mod held;
+
 // Whether each id is above the one before it.
 pub fn is_ascending(ids: &[u32]) -> bool
     ensures { λ r. ⌜ r ≡ ascends (now (ids .entry)) ⌝ }

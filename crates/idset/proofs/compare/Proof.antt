@@ -6,8 +6,8 @@ use lib.ListN.{length, drop}
 use borrow.Author.Needs.{needs}
 use Rattle.theory.specs.Lists.{compare}
 use Rattle.theory.proofs.Compare.{compare-at-less, compare-at-more, compare-at-same, compare-at-longer, compare-at-shorter, compare-at-end}
-use Rattle.lent.proofs.sets.compare.Statement.{statement}
-use Rattle.lent.proofs.sets.compare.Tie as tie
+use Rattle.idset.proofs.compare.Statement.{statement}
+use Rattle.idset.proofs.compare.Tie as tie
 
 abbrev Inv-loop : tie.InvT-loop
 Inv-loop a b i₀ i = (i ≤ length a) × (i ≤ length b) × (compare a b ≡ compare (drop i a) (drop i b))

@@ -2,9 +2,9 @@ use Prim.Native.Nat.{_-_}
 use native.Mathlib.Omega.{arith}
 use lib.ListN.{length}
 use borrow.Author.Needs.{needs}
-use Rattle.lent.proofs.Ascending.{Ascent, ascent-start, ascent-stop, ascent-next, ascent-end}
-use Rattle.lent.proofs.sets.is_ascending.Statement.{statement}
-use Rattle.lent.proofs.sets.is_ascending.Tie as tie
+use Rattle.idset.proofs.Ascending.{Ascent, ascent-start, ascent-stop, ascent-next, ascent-end}
+use Rattle.idset.proofs.is_ascending.Statement.{statement}
+use Rattle.idset.proofs.is_ascending.Tie as tie
 
 abbrev Inv-loop : tie.InvT-loop
 Inv-loop ids low₀ i₀ low i = Ascent ids low i
