@@ -1,9 +1,9 @@
--- What `matches_path` and `diagnose_path` answer, by each way through the code. Assumes nothing.
+-- What `matches_path` answers, by each way through the code, and what the refusals of both calls come to. Assumes nothing.
 use mathlib.Core.Path.{_≡_, refl, sym, ap, _∙_}
-use mathlib.Core.Bool.{Bool, true, false, cond}
+use mathlib.Core.Bool.{Bool, true, false}
 use mathlib.Core.List.{List, []}
 use mathlib.Core.Logic.{⊎-elim}
-use Prim.Native.Nat.{ℕ, suc, _+_, _-_, _≤_, _<_}
+use Prim.Native.Nat.{ℕ, suc, _-_, _≤_, _<_}
 use native.Mathlib.Omega.{arith}
 use borrow.Author.Tests.{eq-eqb, ne-eqb, not-false}
 use Rattle.theory.proofs.Lists.{le-or-lt}
@@ -12,18 +12,18 @@ use Rattle.lent.specs.Refusals.{firstOf, refusalOf, told, answered}
 use Rattle.lent.proofs.Refusals.{told-of, first-under, first-clear}
 use Rattle.lent.proofs.All.{all-at}
 use Rattle.selector.specs.declared.Matching.the-variants as matching
-use Rattle.selector.specs.declared.Diagnosis.{Diagnosis}
-use Rattle.selector.specs.declared.Diagnosis.the-variants as diagnosis
 use Rattle.selector.specs.Rows.{subjectAt}
 use Rattle.selector.specs.Checks.{selectorOver, pathOver, combinatorsOff, codesOver, tagsAscend, subjectsOff, pathVerdict}
 use Rattle.selector.specs.Matching.{fitsFrom, hitAt, farAt, fits, matchingTold, matchingOf}
-use Rattle.selector.specs.Diagnosing.{judge, diagnose, diagnosisTold, diagnosisOf}
 use Rattle.selector.proofs.CheckLaws.{over-steps, places-few}
 
 -- a place whose row's ids ascend, where no subject is off
 pub row-sorted : (path : List ℕ) (m i : ℕ) → i < m → subjectsOff path m ≡ false → tagsAscend (subjectAt path i) ≡ true
 unfolding subjectsOff
 row-sorted path m i h e = all-at (λ j. tagsAscend (subjectAt path j)) m i h (not-false _ e)
+
+pub more : (n : ℕ) → (n ≡ 0 → ⊥) → n ≡ suc (n - 1)
+more n some = omega arith
 
 -- ---- the verdict
 
@@ -55,7 +55,7 @@ module _ (steps : List ℕ) (n : ℕ) (combinators : List ℕ) (c : ℕ) (path :
           sorted = first-clear 1 (subjectsOff path m) [] (omega arith) u .0;
         }
 
-    refused : (v ≡ 0 → ⊥) → (r : Refusal) → r ≡ refusalOf v → (l : List ℕ) → told r ≡ answered (pathVerdict steps n combinators c path m) l
+    pub refused : (v ≡ 0 → ⊥) → (r : Refusal) → r ≡ refusalOf v → (l : List ℕ) → told r ≡ answered (pathVerdict steps n combinators c path m) l
     refused h r f l =
         let few : v < 10 = rw e verdict-few in
         rw (← e, ne-eqb v 0 h, f) (told-of v (omega arith) (omega arith) (λ t. omega arith))
@@ -67,10 +67,6 @@ module _ (steps : List ℕ) (n : ℕ) (combinators : List ℕ) (c : ℕ) (path :
     unfolding matchingOf
     matching-refused h r f = refused h r f _
 
-    pub diagnosis-refused : (v ≡ 0 → ⊥) → (r : Refusal) → r ≡ refusalOf v → diagnosisTold (diagnosis.Refused r) ≡ diagnosisOf steps n combinators c path m
-    unfolding diagnosisOf
-    diagnosis-refused h r f = refused h r f _
-
     module _ (z : v ≡ 0) where
       pub matching-none : n ≡ 0 → m ≡ 0 → matchingTold matching.Yes ≡ matchingOf steps n combinators c path m
       unfolding matchingOf fits
@@ -80,21 +76,10 @@ module _ (steps : List ℕ) (n : ℕ) (combinators : List ℕ) (c : ℕ) (path :
       unfolding matchingOf fits
       matching-left s p = rw (told-is z, s, ne-eqb m 0 p)
 
-      pub diagnosis-none : n ≡ 0 → m ≡ 0 → diagnosisTold diagnosis.Fits ≡ diagnosisOf steps n combinators c path m
-      unfolding diagnosisOf diagnose
-      diagnosis-none s p = rw (told-is z, s, p)
-
-      pub diagnosis-left : n ≡ 0 → (m ≡ 0 → ⊥) → diagnosisTold diagnosis.EmptySelectorWithNonEmptyPath ≡ diagnosisOf steps n combinators c path m
-      unfolding diagnosisOf diagnose
-      diagnosis-left s p = rw (told-is z, s, ne-eqb m 0 p)
-
       module _ (some : n ≡ 0 → ⊥) where
-        more : n ≡ suc (n - 1)
-        more = omega arith
-
         fits-some : fits steps n combinators path m ≡ fitsFrom (hitAt steps path) (farAt combinators) m (n - 1) 0 0
         unfolding fits
-        fits-some = ap (λ (k : ℕ). fits steps k combinators path m) more
+        fits-some = ap (λ (k : ℕ). fits steps k combinators path m) (more n some)
 
         pub matching-yes : (b : Bool) → b ≡ fitsFrom (hitAt steps path) (farAt combinators) m (n - 1) 0 0 → b ≡ true → matchingTold matching.Yes ≡ matchingOf steps n combinators c path m
         unfolding matchingOf
@@ -104,12 +89,4 @@ module _ (steps : List ℕ) (n : ℕ) (combinators : List ℕ) (c : ℕ) (path :
         unfolding matchingOf
         matching-no b f t = rw (told-is z, fits-some, ← f, t)
 
-        diagnose-some : diagnose steps n combinators path m ≡ judge (hitAt steps path) (farAt combinators) m (n - 1) 0 0
-        unfolding diagnose
-        diagnose-some = ap (λ (k : ℕ). diagnose steps k combinators path m) more
-
-        pub diagnosis-found : (d : Diagnosis) → d ≡ judge (hitAt steps path) (farAt combinators) m (n - 1) 0 0 → diagnosisTold d ≡ diagnosisOf steps n combinators c path m
-        unfolding diagnosisOf
-        diagnosis-found d f = rw (told-is z, diagnose-some, f)
-
-pub ruleset answers = (matching-refused, matching-none, matching-left, matching-yes, matching-no, diagnosis-refused, diagnosis-none, diagnosis-left, diagnosis-found)
+pub ruleset answers = (matching-refused, matching-none, matching-left, matching-yes, matching-no)

@@ -1,6 +1,4 @@
 -- What the proofs of several functions use, and the theorems.
-pub mod Judging
+pub mod Ways
 pub mod Answers
-pub mod Agree
 pub mod Fitting
-pub mod Promises

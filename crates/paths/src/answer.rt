@@ -1,8 +1,8 @@
 // The lines of one case.
 use crate::say;
+use diagnosing::diagnose_path;
 use lent::words::wide;
-use matching::paths::diagnose_path;
-use matching::paths::matches_path;
+use matching::matches_path;
 use weight::weigh::level3_specificity;
 use weight::weigh::specificity;
 ghost use Prim.Native.Nat.{_≤_};

@@ -35,7 +35,7 @@ use Rattle.selector.specs.Diagnosing.{diagnosisTold, diagnosisOf}
 use Rattle.selector.specs.Weighing.{countsOf, countsIn, Summed, weighingTold, weightTold, weighingOf}
 use Rattle.selector.proofs.Distinct.{matching-distinct, diagnosis-distinct}
 use Rattle.matching.proofs.Fitting.{matching-places}
-use Rattle.matching.proofs.Promises.{answers-agree}
+use Rattle.diagnosing.proofs.Promises.{answers-agree}
 use Rattle.selector.proofs.Saturation.{never-saturates}
 use Rattle.steps.specs.declared.SelectorStep.{SelectorStep}
 use Rattle.steps.specs.Steps.{stepTags, stepWeighing}

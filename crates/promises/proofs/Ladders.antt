@@ -18,7 +18,7 @@ use Rattle.lent.proofs.Refusals.{first-here, first-next, positive}
 use Rattle.selector.specs.Tags.{Tags}
 use Rattle.selector.specs.Matching.{matchingTold, yesNo}
 use Rattle.selector.specs.Diagnosing.{diagnosisTold, isFit, isMismatch, someFit, otherErrors, lastOr, tried, judge, diagnose}
-use Rattle.matching.proofs.Judging.{tried-one}
+use Rattle.diagnosing.proofs.Judging.{tried-one}
 use Rattle.selector.specs.declared.Diagnosis.{Diagnosis}
 use Rattle.selector.specs.declared.Diagnosis.the-variants as diagnosis
 use Rattle.style.specs.Entries.{Entry}

@@ -27,7 +27,7 @@ use Rattle.selector.specs.Rows.{subjectAt, selectorOf, pathOf}
 use Rattle.selector.specs.Checks.{rowFits, selectorOver, pathOver, combinatorsOff, codesOver, tagsAscend, subjectsOff, pathVerdict}
 use Rattle.selector.specs.Matching.{fitsFrom, fits, matchingTold, yesNo, matchingOf}
 use Rattle.selector.specs.Diagnosing.{diagnosisTold, diagnosisOf}
-use Rattle.matching.proofs.Agree.{diagnosis-fits}
+use Rattle.diagnosing.proofs.Agree.{diagnosis-fits}
 use Rattle.matching.proofs.Answers.{told-is}
 use Rattle.selector.proofs.Distinct.{matching-distinct, diagnosis-distinct}
 use Rattle.matching.proofs.Fitting.{subject-drop, fits-level3}

@@ -1,24 +1,9 @@
 // The calls on a table.
 use crate::look;
 use crate::tell;
-use building::root_state;
 use entering::enter::enter_subject;
 use lent::words::word;
-use matcher::MatchState;
-use matcher::rules::matching_part;
-use matcher::rules::matching_rules;
 use typed::SelectorInputs;
-
-fn state(body: &[u32]) -> MatchState {
-    MatchState {
-        number: word(body, 0),
-        stamp: word(body, 1),
-    }
-}
-
-pub(crate) fn root(body: &[u32], out: &mut [u8], at: usize) -> usize {
-    tell::root(out, at, root_state(word(body, 0)))
-}
 
 fn build(
     body: &[u32],
@@ -51,27 +36,10 @@ fn enter(
         cursors,
         matched,
         transitions,
-        state(body),
+        look::state(body, 0),
         SelectorInputs::from_row(body, 2),
     );
     tell::entering(out, at, entering)
-}
-
-fn matching(
-    state: MatchState,
-    sheet: &[u32],
-    head: &[u32; 8],
-    states: &[u32],
-    cursors: &[u32],
-    matched: &[u32],
-    transitions: &[u32],
-    out: &mut [u8],
-    at: usize,
-) -> usize {
-    let listing = matching_part(sheet, head, states, cursors, matched, transitions, state);
-    let used = tell::listing(out, at, listing);
-    let list = matching_rules(sheet, head, states, cursors, matched, transitions, state);
-    tell::rules(out, used, list)
 }
 
 // The pieces are as far as they are lent.
@@ -100,42 +68,9 @@ pub(crate) fn call(
             out,
             at,
         ),
-        9 => look::winner(
+        _ => look::asked(
+            op,
             body,
-            sheet,
-            head,
-            states,
-            cursors,
-            matched,
-            transitions,
-            out,
-            at,
-        ),
-        10 => look::changed(
-            body,
-            sheet,
-            head,
-            states,
-            cursors,
-            matched,
-            transitions,
-            out,
-            at,
-        ),
-        11 => look::channels(
-            body,
-            sheet,
-            head,
-            states,
-            cursors,
-            matched,
-            transitions,
-            out,
-            at,
-        ),
-        12 => look::resources(body, sheet, out, at),
-        _ => matching(
-            state(body),
             sheet,
             head,
             states,

@@ -1,5 +1,7 @@
 // A buffer of half words, and what an answer's list left in it.
 use changeset::Changing;
+use items::said;
+use items::said::Said;
 use items::say;
 use lent::words::wide;
 use lent::words::word;
@@ -95,8 +97,19 @@ fn left(out: &mut [u8], at: usize, buffer: &[u16], n: usize) -> usize {
     say::one(out, end, b"past", others(&buffer[k..]))
 }
 
-pub(crate) fn count(out: &mut [u8], at: usize, tag: &[u8], n: usize) -> usize {
-    say::two(out, at, tag, 0, small(n))
+// How many there are.
+pub(crate) fn of_changing(answer: Changing) -> Said {
+    match answer {
+        Changing::Listed(n) => said::two(0, small(n)),
+        Changing::Refused(refusal) => said::refused(refusal),
+    }
+}
+
+fn many(answer: Changing) -> usize {
+    match answer {
+        Changing::Listed(n) => n,
+        Changing::Refused(_) => 0,
+    }
 }
 
 // An answer's list.
@@ -107,14 +120,6 @@ pub(crate) fn listed(
     answer: Changing,
     buffer: &[u16],
 ) -> usize {
-    match answer {
-        Changing::Listed(n) => {
-            let used = count(out, at, tag, n);
-            left(out, used, buffer, n)
-        }
-        Changing::Refused(refusal) => {
-            let used = say::refused(out, at, tag, refusal);
-            left(out, used, buffer, 0)
-        }
-    }
+    let used = said::line(out, at, tag, of_changing(answer));
+    left(out, used, buffer, many(answer))
 }

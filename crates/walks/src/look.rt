@@ -1,5 +1,7 @@
-// Winners, changes and channels of a table's states.
+// Rules, winners, changes and channels of a table's states.
 use crate::half;
+use crate::tell;
+use building::root_state;
 use cascade::Channels;
 use cascade::change::changed_channels;
 use cascade::change::changed_properties;
@@ -18,9 +20,43 @@ use looking::look::resource_key;
 use looking::look::value_kind;
 use looking::look::winning_source_for_id;
 use matcher::MatchState;
+use matcher::rules::matching_part;
+use matcher::rules::matching_rules;
 use style::ResourceKey;
 use style::StyleValueKind;
 use style::StyleValueRef;
+
+// The state in the two words from i on.
+pub(crate) fn state(body: &[u32], i: usize) -> MatchState {
+    let words = rest(body, i);
+    MatchState {
+        number: word(words, 0),
+        stamp: word(words, 1),
+    }
+}
+
+pub(crate) fn root(body: &[u32], out: &mut [u8], at: usize) -> usize {
+    let state = root_state(word(body, 0));
+    say::two(out, at, b"root", state.number, state.stamp)
+}
+
+fn matching(
+    body: &[u32],
+    sheet: &[u32],
+    head: &[u32; 8],
+    states: &[u32],
+    cursors: &[u32],
+    matched: &[u32],
+    transitions: &[u32],
+    out: &mut [u8],
+    at: usize,
+) -> usize {
+    let state = state(body, 0);
+    let listing = matching_part(sheet, head, states, cursors, matched, transitions, state);
+    let used = tell::listing(out, at, listing);
+    let list = matching_rules(sheet, head, states, cursors, matched, transitions, state);
+    tell::rules(out, used, list)
+}
 
 fn of_winning(answer: Winning) -> Said {
     match answer {
@@ -76,7 +112,7 @@ fn resource(out: &mut [u8], at: usize, answer: ResourceKey) -> usize {
 }
 
 // The winner of a property, and its entry: in full, plainly, and as a resource.
-pub(crate) fn winner(
+fn winner(
     body: &[u32],
     sheet: &[u32],
     head: &[u32; 8],
@@ -87,10 +123,7 @@ pub(crate) fn winner(
     out: &mut [u8],
     at: usize,
 ) -> usize {
-    let state = MatchState {
-        number: word(body, 0),
-        stamp: word(body, 1),
-    };
+    let state = state(body, 0);
     let property = half::low(word(body, 2));
     let won = winning_source_for_id(
         sheet,
@@ -138,20 +171,6 @@ pub(crate) fn winner(
     resource(out, c, key)
 }
 
-fn old(body: &[u32]) -> MatchState {
-    MatchState {
-        number: word(body, 0),
-        stamp: word(body, 1),
-    }
-}
-
-fn new(body: &[u32]) -> MatchState {
-    MatchState {
-        number: word(body, 2),
-        stamp: word(body, 3),
-    }
-}
-
 fn changed_into(
     body: &[u32],
     sheet: &[u32],
@@ -171,14 +190,14 @@ fn changed_into(
         cursors,
         matched,
         transitions,
-        old(body),
-        new(body),
+        state(body, 0),
+        state(body, 2),
         buffer,
     );
     half::listed(out, at, b"changed", answer, buffer)
 }
 
-pub(crate) fn changed(
+fn changed(
     body: &[u32],
     sheet: &[u32],
     head: &[u32; 8],
@@ -214,7 +233,7 @@ pub(crate) fn named(out: &mut [u8], at: usize, set: ChannelSet) -> usize {
     }
 }
 
-pub(crate) fn channels(
+fn channels(
     body: &[u32],
     sheet: &[u32],
     head: &[u32; 8],
@@ -233,8 +252,8 @@ pub(crate) fn channels(
         matched,
         transitions,
         rest(body, 4),
-        old(body),
-        new(body),
+        state(body, 0),
+        state(body, 2),
     );
     match answer {
         Channels::Set(set) => {
@@ -250,8 +269,70 @@ fn resources_into(sheet: &[u32], buffer: &mut [u16], out: &mut [u8], at: usize) 
     half::listed(out, at, b"resources", answer, buffer)
 }
 
-pub(crate) fn resources(body: &[u32], sheet: &[u32], out: &mut [u8], at: usize) -> usize {
+fn resources(body: &[u32], sheet: &[u32], out: &mut [u8], at: usize) -> usize {
     let mut buffer = [half::FILLED; half::SIZE];
     let n = half::room(body, 0);
     resources_into(sheet, &mut buffer[..n], out, at)
+}
+
+// What is asked of a table.
+pub(crate) fn asked(
+    op: u32,
+    body: &[u32],
+    sheet: &[u32],
+    head: &[u32; 8],
+    states: &[u32],
+    cursors: &[u32],
+    matched: &[u32],
+    transitions: &[u32],
+    out: &mut [u8],
+    at: usize,
+) -> usize {
+    match op {
+        9 => winner(
+            body,
+            sheet,
+            head,
+            states,
+            cursors,
+            matched,
+            transitions,
+            out,
+            at,
+        ),
+        10 => changed(
+            body,
+            sheet,
+            head,
+            states,
+            cursors,
+            matched,
+            transitions,
+            out,
+            at,
+        ),
+        11 => channels(
+            body,
+            sheet,
+            head,
+            states,
+            cursors,
+            matched,
+            transitions,
+            out,
+            at,
+        ),
+        12 => resources(body, sheet, out, at),
+        _ => matching(
+            body,
+            sheet,
+            head,
+            states,
+            cursors,
+            matched,
+            transitions,
+            out,
+            at,
+        ),
+    }
 }

@@ -5,7 +5,6 @@ use items::held::NONE;
 use items::held::SIZE;
 use items::held::finish;
 use items::held::next;
-use lent::held::part;
 
 mod answer;
 mod calls;
@@ -15,47 +14,17 @@ mod sets;
 mod store;
 mod tell;
 
-// Answers the item whose words are the first n.
-fn answer_item(
-    op: u32,
-    words: &[u32; MOST],
-    n: usize,
-    sheet: &mut [u32; 67020],
-    head: &mut [u32; 8],
-    states: &mut [u32; 1545],
-    cursors: &mut [u32; 16384],
-    matched: &mut [u32; 8192],
-    transitions: &mut [u32; 24600],
-    rooms: &mut [u32; 5],
-    out: &mut [u8; 65536],
-    used: usize,
-) -> usize {
-    answer::by_op(
-        op,
-        part(words, 0, n),
-        sheet,
-        head,
-        states,
-        cursors,
-        matched,
-        transitions,
-        rooms,
-        out,
-        used,
-    )
-}
-
 // The sheet, the table's pieces, and how many words of each are lent.
 // A proved loop has to end, and nothing says that the input does: the turns are counted down, from a number that no run uses up.
 fn main() {
     let mut input = [0u8; SIZE];
     let mut words = [0u32; MOST];
-    let mut sheet = [0u32; 67020];
+    let mut sheet = [0u32; answer::SHEET];
     let mut head = [0u32; 8];
-    let mut states = [0u32; 1545];
-    let mut cursors = [0u32; 16384];
-    let mut matched = [0u32; 8192];
-    let mut transitions = [0u32; 24600];
+    let mut states = [0u32; answer::STATES];
+    let mut cursors = [0u32; answer::CURSORS];
+    let mut matched = [0u32; answer::MATCHED];
+    let mut transitions = [0u32; answer::TRANSITIONS];
     let mut rooms = [0u32; 5];
     let mut out = [0u8; 65536];
     let mut used = 0;
@@ -67,7 +36,7 @@ fn main() {
             finish(&input, item.have, &mut out, used);
             return;
         }
-        used = answer_item(
+        used = answer::by_op(
             item.op,
             &words,
             item.count,

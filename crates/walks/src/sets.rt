@@ -10,6 +10,8 @@ use changeset::union;
 use channels::ChannelSet;
 use channels::affected_channels;
 use items::MOST;
+use items::said;
+use items::said::Said;
 use items::say;
 use keys::CascadeEntryKey;
 use lent::held::part;
@@ -20,18 +22,19 @@ use lines::text;
 use selector::Specificity;
 
 fn length(out: &mut [u8], at: usize, answer: Changing) -> usize {
+    said::line(out, at, b"len", half::of_changing(answer))
+}
+
+fn of_emptiness(answer: Emptiness) -> Said {
     match answer {
-        Changing::Listed(n) => half::count(out, at, b"len", n),
-        Changing::Refused(refusal) => say::refused(out, at, b"len", refusal),
+        Emptiness::Yes => said::two(0, 1),
+        Emptiness::No => said::two(0, 0),
+        Emptiness::Refused(refusal) => said::refused(refusal),
     }
 }
 
 fn emptiness(out: &mut [u8], at: usize, answer: Emptiness) -> usize {
-    match answer {
-        Emptiness::Yes => say::two(out, at, b"empty", 0, 1),
-        Emptiness::No => say::two(out, at, b"empty", 0, 0),
-        Emptiness::Refused(refusal) => say::refused(out, at, b"empty", refusal),
-    }
+    said::line(out, at, b"empty", of_emptiness(answer))
 }
 
 // The set of the first `count` ids, its length and whether it is empty.
@@ -49,7 +52,7 @@ fn set_lent(body: &[u32], ids: &[u16], out: &mut [u8], at: usize) -> usize {
     set_of(ids, wide(word(body, 0)), &mut buffer[..n], out, at)
 }
 
-fn from_ids(body: &[u32], out: &mut [u8], at: usize) -> usize {
+pub(crate) fn from_ids(body: &[u32], out: &mut [u8], at: usize) -> usize {
     let mut ids = [0u16; MOST];
     let k = half::narrow(rest(body, 2), &mut ids);
     set_lent(body, &ids[..k], out, at)
@@ -88,13 +91,13 @@ fn unite_with(body: &[u32], a: &[u16], out: &mut [u8], at: usize) -> usize {
     united_lent(body, a, &b[..k], out, at)
 }
 
-fn unite(body: &[u32], out: &mut [u8], at: usize) -> usize {
+pub(crate) fn unite(body: &[u32], out: &mut [u8], at: usize) -> usize {
     let mut a = [0u16; MOST];
     let k = half::narrow(part(body, 4, second(body)), &mut a);
     unite_with(body, &a[..k], out, at)
 }
 
-fn affected(body: &[u32], out: &mut [u8], at: usize) -> usize {
+pub(crate) fn affected(body: &[u32], out: &mut [u8], at: usize) -> usize {
     let k = wide(word(body, 0));
     let mut ids = [0u16; MOST];
     let i = half::narrow(part(body, 1, 1 + k), &mut ids);
@@ -103,12 +106,13 @@ fn affected(body: &[u32], out: &mut [u8], at: usize) -> usize {
     named(out, used, set)
 }
 
-fn has(body: &[u32], out: &mut [u8], at: usize) -> usize {
+fn bit(yes: bool) -> u32 {
+    if yes { 1 } else { 0 }
+}
+
+pub(crate) fn has(body: &[u32], out: &mut [u8], at: usize) -> usize {
     let set = ChannelSet(word(body, 1));
-    if set.contains(word(body, 0)) {
-        return say::one(out, at, b"has", 1);
-    }
-    say::one(out, at, b"has", 0)
+    say::one(out, at, b"has", bit(set.contains(word(body, 0))))
 }
 
 // The key in the seven words from i on.
@@ -137,19 +141,9 @@ fn compared(out: &mut [u8], at: usize, order: i32) -> usize {
     text(out, at, b"compare 1\n")
 }
 
-fn compare(body: &[u32], out: &mut [u8], at: usize) -> usize {
+pub(crate) fn compare(body: &[u32], out: &mut [u8], at: usize) -> usize {
     let a = key(body, 0);
     let b = key(body, 7);
     let used = compared(out, at, a.compare(b));
     compared(out, used, b.compare(a))
-}
-
-pub(crate) fn alone(op: u32, body: &[u32], out: &mut [u8], at: usize) -> usize {
-    match op {
-        13 => from_ids(body, out, at),
-        14 => unite(body, out, at),
-        15 => affected(body, out, at),
-        16 => has(body, out, at),
-        _ => compare(body, out, at),
-    }
 }

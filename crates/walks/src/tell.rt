@@ -3,13 +3,14 @@ use building::Building;
 use cursor::NextRule;
 use cursor::step;
 use entering::Entering;
+use items::said;
+use items::said::Said;
 use items::say;
 use lent::held::part;
 use lent::words::wide;
 use lent::words::word;
 use lines::text;
 use matcher::Listing;
-use matcher::MatchState;
 
 // A tag, and the piece's first words, as many as word i says.
 fn first(body: &[u32], i: usize, tag: &[u8], piece: &[u32], out: &mut [u8], at: usize) -> usize {
@@ -33,33 +34,37 @@ pub(crate) fn pieces(
     first(body, 4, b"t", transitions, out, m)
 }
 
-pub(crate) fn building(out: &mut [u8], at: usize, answer: Building) -> usize {
+fn of_building(answer: Building) -> Said {
     match answer {
-        Building::Built => say::one(out, at, b"build", 0),
-        Building::Refused(refusal) => say::refused(out, at, b"build", refusal),
+        Building::Built => said::one(0),
+        Building::Refused(refusal) => said::refused(refusal),
     }
 }
 
-pub(crate) fn root(out: &mut [u8], at: usize, state: MatchState) -> usize {
-    say::two(out, at, b"root", state.number, state.stamp)
+pub(crate) fn building(out: &mut [u8], at: usize, answer: Building) -> usize {
+    said::line(out, at, b"build", of_building(answer))
 }
 
-fn entered(out: &mut [u8], at: usize, state: MatchState) -> usize {
-    say::three(out, at, b"enter", 0, state.number, state.stamp)
+fn of_entering(answer: Entering) -> Said {
+    match answer {
+        Entering::Entered(state) => said::three(0, state.number, state.stamp),
+        Entering::Refused(refusal) => said::refused(refusal),
+    }
 }
 
 pub(crate) fn entering(out: &mut [u8], at: usize, answer: Entering) -> usize {
+    said::line(out, at, b"enter", of_entering(answer))
+}
+
+fn of_listing(answer: Listing) -> Said {
     match answer {
-        Entering::Entered(state) => entered(out, at, state),
-        Entering::Refused(refusal) => say::refused(out, at, b"enter", refusal),
+        Listing::Part(from, to) => said::three(0, from, to),
+        Listing::Refused(refusal) => said::refused(refusal),
     }
 }
 
 pub(crate) fn listing(out: &mut [u8], at: usize, answer: Listing) -> usize {
-    match answer {
-        Listing::Part(from, to) => say::three(out, at, b"part", 0, from, to),
-        Listing::Refused(refusal) => say::refused(out, at, b"part", refusal),
-    }
+    said::line(out, at, b"part", of_listing(answer))
 }
 
 fn yielded(out: &mut [u8], at: usize, rule: NextRule) -> usize {

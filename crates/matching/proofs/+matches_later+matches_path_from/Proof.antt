@@ -3,17 +3,17 @@ use Prim.Native.Nat.{ℕ, _+_, _-_, _*_, _<_}
 use borrow.Author.Needs.{needs}
 use borrow.Fn.Kinds.{In}
 use borrow.Fn.PlainCycle.{Measures, is, falls, and}
-use Rattle.matching.proofs.Judging.{matching}
-use Rattle.matching.proofs.paths.matches_later.Reads as later-r
-use Rattle.matching.proofs.paths.matches_later.Kinds as later-k
-use Rattle.matching.proofs.paths.+matches_later+matches_path_from.Lts-matches_later as ll
-use Rattle.matching.proofs.paths.matches_path_from.Reads as from-r
-use Rattle.matching.proofs.paths.matches_path_from.Kinds as from-k
-use Rattle.matching.proofs.paths.+matches_later+matches_path_from.Lts-matches_path_from as fl
-use Rattle.matching.proofs.paths.hits.Reads as hits-r
-use Rattle.matching.proofs.paths.is_far.Reads as far-r
-use Rattle.matching.proofs.paths.+matches_later+matches_path_from.{statement}
-use Rattle.matching.proofs.paths.+matches_later+matches_path_from.Tie.{close}
+use Rattle.matching.proofs.Ways.{matching}
+use Rattle.matching.proofs.matches_later.Reads as later-r
+use Rattle.matching.proofs.matches_later.Kinds as later-k
+use Rattle.matching.proofs.+matches_later+matches_path_from.Lts-matches_later as ll
+use Rattle.matching.proofs.matches_path_from.Reads as from-r
+use Rattle.matching.proofs.matches_path_from.Kinds as from-k
+use Rattle.matching.proofs.+matches_later+matches_path_from.Lts-matches_path_from as fl
+use Rattle.matching.proofs.held.hits.Reads as hits-r
+use Rattle.matching.proofs.held.is_far.Reads as far-r
+use Rattle.matching.proofs.+matches_later+matches_path_from.{statement}
+use Rattle.matching.proofs.+matches_later+matches_path_from.Tie.{close}
 
 abbrev μ-later : Measures 3 later-k.ps ℕ
 μ-later κs a = 2 * (a .1 .1 .1 .1 .0 - a .1 .1 .1 .1 .1 .1 .0) + 1

@@ -1,8 +1,8 @@
--- `matching::paths::hits` meets its contract: the ids of a place's row ascend. Assumes nothing.
+-- `matching::held::hits` meets its contract: the ids of a place's row ascend. Assumes nothing.
 use borrow.Author.Needs.{needs}
 use Rattle.matching.proofs.Answers.{row-sorted}
-use Rattle.matching.proofs.paths.hits.Statement.{statement}
-use Rattle.matching.proofs.paths.hits.Tie as tie
+use Rattle.matching.proofs.held.hits.Statement.{statement}
+use Rattle.matching.proofs.held.hits.Tie as tie
 
 mul-matches-row : tie.Need-mul-matches-row
 mul-matches-row c = search needs

@@ -3,17 +3,17 @@ use Prim.Native.Nat.{ℕ, _+_, _-_, _*_, _<_}
 use borrow.Author.Needs.{needs}
 use borrow.Fn.Kinds.{In}
 use borrow.Fn.PlainCycle.{Measures, is, falls, and}
-use Rattle.matching.proofs.Judging.{judging}
-use Rattle.matching.proofs.paths.diagnose_path_from.Reads as from-r
-use Rattle.matching.proofs.paths.diagnose_path_from.Kinds as from-k
-use Rattle.matching.proofs.paths.+diagnose_path_from+try_later.Lts-diagnose_path_from as fl
-use Rattle.matching.proofs.paths.try_later.Reads as try-r
-use Rattle.matching.proofs.paths.try_later.Kinds as try-k
-use Rattle.matching.proofs.paths.+diagnose_path_from+try_later.Lts-try_later as tl
-use Rattle.matching.proofs.paths.hits.Reads as hits-r
-use Rattle.matching.proofs.paths.is_far.Reads as far-r
-use Rattle.matching.proofs.paths.+diagnose_path_from+try_later.{statement}
-use Rattle.matching.proofs.paths.+diagnose_path_from+try_later.Tie.{close}
+use Rattle.diagnosing.proofs.Judging.{judging}
+use Rattle.diagnosing.proofs.diagnose_path_from.Reads as from-r
+use Rattle.diagnosing.proofs.diagnose_path_from.Kinds as from-k
+use Rattle.diagnosing.proofs.+diagnose_path_from+try_later.Lts-diagnose_path_from as fl
+use Rattle.diagnosing.proofs.try_later.Reads as try-r
+use Rattle.diagnosing.proofs.try_later.Kinds as try-k
+use Rattle.diagnosing.proofs.+diagnose_path_from+try_later.Lts-try_later as tl
+use Rattle.matching.proofs.held.hits.Reads as hits-r
+use Rattle.matching.proofs.held.is_far.Reads as far-r
+use Rattle.diagnosing.proofs.+diagnose_path_from+try_later.{statement}
+use Rattle.diagnosing.proofs.+diagnose_path_from+try_later.Tie.{close}
 
 abbrev μ-from : Measures 3 from-k.ps ℕ
 μ-from κs a = 2 * (a .1 .1 .1 .1 .0 - a .1 .1 .1 .1 .1 .1 .0)

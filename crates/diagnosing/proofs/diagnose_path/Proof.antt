@@ -1,8 +1,9 @@
--- `matching::paths::diagnose_path` meets its contract. Assumes nothing.
+-- `diagnosing::diagnose_path` meets its contract. Assumes nothing.
 use borrow.Author.Needs.{needs}
-use Rattle.matching.proofs.Answers.{accepted, answers}
-use Rattle.matching.proofs.paths.diagnose_path.Statement.{statement}
-use Rattle.matching.proofs.paths.diagnose_path.Tie as tie
+use Rattle.matching.proofs.Answers.{accepted}
+use Rattle.diagnosing.proofs.Answers.{answers}
+use Rattle.diagnosing.proofs.diagnose_path.Statement.{statement}
+use Rattle.diagnosing.proofs.diagnose_path.Tie as tie
 
 path-verdict-requires : tie.Need-path-verdict-requires
 path-verdict-requires c κs = search needs

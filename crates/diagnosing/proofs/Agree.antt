@@ -13,7 +13,7 @@ use Rattle.selector.specs.declared.Diagnosis.{Diagnosis}
 use Rattle.selector.specs.declared.Diagnosis.the-variants.{Fits, EmptySelectorWithNonEmptyPath, MissingSubject, StepMismatch, TrailingSubjects, MissingDescendant, Refused}
 use Rattle.selector.specs.Matching.{fitsFrom, anyFrom, hitAt, farAt, fits}
 use Rattle.selector.specs.Diagnosing.{isFit, isMismatch, someFit, otherErrors, lastOr, tried, judge, diagnose}
-use Rattle.matching.proofs.Judging.{tried-one}
+use Rattle.diagnosing.proofs.Judging.{tried-one}
 
 is-fit : (d : Diagnosis) → isFit d ≡ true → d ≡ Fits
 is-fit Fits e = refl

@@ -1,8 +1,8 @@
--- `matching::paths::is_far` meets its contract. Assumes nothing.
+-- `matching::held::is_far` meets its contract. Assumes nothing.
 use borrow.Author.Needs.{needs}
 use Rattle.selector.proofs.RowLaws.{far-is}
-use Rattle.matching.proofs.paths.is_far.Statement.{statement}
-use Rattle.matching.proofs.paths.is_far.Tie as tie
+use Rattle.matching.proofs.held.is_far.Statement.{statement}
+use Rattle.matching.proofs.held.is_far.Tie as tie
 
 word-requires : tie.Need-word-requires
 word-requires c κs = search needs

@@ -1,8 +1,8 @@
--- `matching::paths::matches_path` meets its contract. Assumes nothing.
+-- `matching::matches_path` meets its contract. Assumes nothing.
 use borrow.Author.Needs.{needs}
 use Rattle.matching.proofs.Answers.{accepted, answers}
-use Rattle.matching.proofs.paths.matches_path.Statement.{statement}
-use Rattle.matching.proofs.paths.matches_path.Tie as tie
+use Rattle.matching.proofs.matches_path.Statement.{statement}
+use Rattle.matching.proofs.matches_path.Tie as tie
 
 path-verdict-requires : tie.Need-path-verdict-requires
 path-verdict-requires c κs = search needs

@@ -1,88 +1,16 @@
-// Whether a selector fits a path, and if not why: `matches_path` and `diagnose_path`.
+// Why a selector does not fit a path: `diagnose_path` of selector.rs.
 use checks::held::path_verdict;
 use lent::Refusal;
-use lent::words::word;
+use matching::held::hits;
+use matching::held::is_far;
 use selector::Diagnosis;
-use selector::Matching;
-use selector::held::STEP_WORDS;
-use selector::held::SUBJECT_WORDS;
-use selector::held::matches_row;
 ghost use mathlib.Core.Path.{_≡_};
 ghost use mathlib.Core.Bool.{false};
 ghost use Prim.Native.Nat.{_<_, _≤_, _+_, _-_};
 ghost use Rattle.theory.specs.Lists.{spread};
 ghost use Rattle.selector.specs.Checks.{subjectsOff};
-ghost use Rattle.selector.specs.Matching.{anyFrom, fitsFrom, hitAt, farAt, matchingTold, matchingOf};
+ghost use Rattle.selector.specs.Matching.{hitAt, farAt};
 ghost use Rattle.selector.specs.Diagnosing.{tried, judge, diagnosisTold, diagnosisOf};
-
-// Whether step k matches at place i.
-fn hits(steps: &[u32], k: usize, path: &[u32], m: usize, i: usize) -> bool
-    requires { ⌜ (k < 8) × (i < m) × (m ≤ 32) × (subjectsOff (now path) m ≡ false) ⌝ }
-    ensures { λ r. ⌜ r ≡ hitAt (now (steps .entry)) (now (path .entry)) k i ⌝ }
-{
-    matches_row(steps, STEP_WORDS * k, path, SUBJECT_WORDS * i)
-}
-
-// Whether a descendant combinator follows step k.
-fn is_far(combinators: &[u32], k: usize) -> bool
-    ensures { λ r. ⌜ r ≡ farAt (now (combinators .entry)) k ⌝ }
-{
-    word(combinators, k) != 0
-}
-
-// Whether the n steps from `step` on fit, with `step` at `place`, to the end of the m places.
-fn matches_path_from(
-    steps: &[u32],
-    n: usize,
-    combinators: &[u32],
-    path: &[u32],
-    m: usize,
-    step: usize,
-    place: usize,
-) -> bool
-    requires { ⌜ (step < n) × (n ≤ 8) × (m ≤ 32) × (subjectsOff (now path) m ≡ false) ⌝ }
-    ensures { λ r. ⌜ r ≡ fitsFrom (hitAt (now (steps .entry)) (now (path .entry))) (farAt (now (combinators .entry))) m (n - (step + 1)) step place ⌝ }
-{
-    if m <= place {
-        return false;
-    }
-    if !hits(steps, step, path, m, place) {
-        return false;
-    }
-    let next = step + 1;
-    let after = place + 1;
-    if next < n {
-        if is_far(combinators, step) {
-            matches_later(steps, n, combinators, path, m, next, after)
-        } else {
-            matches_path_from(steps, n, combinators, path, m, next, after)
-        }
-    } else {
-        after == m
-    }
-}
-
-// Whether they fit with `step` at `from` or a later place.
-fn matches_later(
-    steps: &[u32],
-    n: usize,
-    combinators: &[u32],
-    path: &[u32],
-    m: usize,
-    step: usize,
-    from: usize,
-) -> bool
-    requires { ⌜ (step < n) × (n ≤ 8) × (m ≤ 32) × (subjectsOff (now path) m ≡ false) ⌝ }
-    ensures { λ r. ⌜ r ≡ anyFrom (fitsFrom (hitAt (now (steps .entry)) (now (path .entry))) (farAt (now (combinators .entry))) m (n - (step + 1)) step) (m - from) from ⌝ }
-{
-    if m <= from {
-        return false;
-    }
-    if matches_path_from(steps, n, combinators, path, m, step, from) {
-        return true;
-    }
-    matches_later(steps, n, combinators, path, m, step, from + 1)
-}
 
 // What is found of the n steps from `step` on, with `step` at `place`.
 fn diagnose_path_from(
@@ -158,40 +86,6 @@ fn try_later(
         } => try_later(steps, n, combinators, path, m, step, next, last),
         _ => try_later(steps, n, combinators, path, m, step, next, found),
     }
-}
-
-// Whether the selector of `step_count` step rows fits the path of `path_count` subject rows.
-pub fn matches_path(
-    steps: &[u32],
-    step_count: usize,
-    combinators: &[u32],
-    combinator_count: usize,
-    path: &[u32],
-    path_count: usize,
-) -> Matching
-    ensures { λ r. ⌜ matchingTold r ≡ matchingOf (now (steps .entry)) «step_count» (now (combinators .entry)) «combinator_count» (now (path .entry)) «path_count» ⌝ }
-{
-    let v = path_verdict(
-        steps,
-        step_count,
-        combinators,
-        combinator_count,
-        path,
-        path_count,
-    );
-    if v != 0 {
-        return Matching::Refused(Refusal::of(v));
-    }
-    if step_count == 0 {
-        if path_count == 0 {
-            return Matching::Yes;
-        }
-        return Matching::No;
-    }
-    if matches_path_from(steps, step_count, combinators, path, path_count, 0, 0) {
-        return Matching::Yes;
-    }
-    Matching::No
 }
 
 // A fit, or why there is none.

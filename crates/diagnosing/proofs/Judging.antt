@@ -1,26 +1,18 @@
--- A law for each way through matching and diagnosis, with n steps in all. Assumes nothing.
+-- A law for each way through diagnosis, with n steps in all. Assumes nothing.
 use mathlib.Core.Path.{_≡_, refl, sym, ap, _∙_}
 use mathlib.Core.Bool.{Bool, true, false, not, cond}
 use mathlib.Core.List.{List, [], _∷_}
 use Prim.Native.Nat.{ℕ, zero, suc, _+_, _-_, _≤_, _<_}
 use native.Mathlib.Numerals.{add-one}
-use native.Mathlib.Omega.{arith}
-use lib.Dec.{eqb}
-use borrow.Author.Tests.{lt-ltb, le-ltb, not-true, not-false}
+use borrow.Author.Tests.{lt-ltb, le-ltb}
 use denote.Enum.Declared.{tagOf}
 use types.Run.{OneOf, miss}
 use Rattle.theory.specs.Lists.{spread}
 use Rattle.selector.specs.declared.Diagnosis.{Diagnosis}
 use Rattle.selector.specs.declared.Diagnosis.the-variants.{Fits, EmptySelectorWithNonEmptyPath, MissingSubject, StepMismatch, TrailingSubjects, MissingDescendant, Refused}
-use Rattle.selector.specs.Matching.{fitsFrom, anyFrom}
 use Rattle.selector.specs.Diagnosing.{judge, isFit, isMismatch, someFit, otherErrors, lastOr, tried}
 use Rattle.selector.proofs.Diagnosis.{the-type}
-
-none-left : (n k : ℕ) → n ≤ k → n - k ≡ 0
-none-left n k h = omega arith
-
-one-left : (n k : ℕ) → k < n → n - k ≡ suc (n - (k + 1))
-one-left n k h = omega arith
+use Rattle.matching.proofs.Ways.{none-left, one-left, missed, matched}
 
 module _ (hit : ℕ → ℕ → Bool) (m k i : ℕ) where
   pub judge-missing : (far : ℕ → Bool) (after : ℕ) → m ≤ i → MissingSubject k i ≡ judge hit far m after k i
@@ -28,80 +20,34 @@ module _ (hit : ℕ → ℕ → Bool) (m k i : ℕ) where
   judge-missing far zero h = simp (le-ltb i m h)
   judge-missing far (suc after) h = simp (le-ltb i m h)
 
-  pub fits-missing : (far : ℕ → Bool) (after : ℕ) → m ≤ i → false ≡ fitsFrom hit far m after k i
-  unfolding fitsFrom
-  fits-missing far zero h = simp (le-ltb i m h)
-  fits-missing far (suc after) h = simp (le-ltb i m h)
-
   module _ (h : i < m) (b : Bool) (e : b ≡ hit k i) where
-    missed : not b ≡ true → hit k i ≡ false
-    missed t = sym e ∙ not-true b t
-
     pub judge-mismatch : (far : ℕ → Bool) (after : ℕ) → not b ≡ true → StepMismatch k i ≡ judge hit far m after k i
     unfolding judge
-    judge-mismatch far zero t = simp (lt-ltb i m h, missed t)
-    judge-mismatch far (suc after) t = simp (lt-ltb i m h, missed t)
-
-    pub fits-mismatch : (far : ℕ → Bool) (after : ℕ) → not b ≡ true → false ≡ fitsFrom hit far m after k i
-    unfolding fitsFrom
-    fits-mismatch far zero t = simp (lt-ltb i m h, missed t)
-    fits-mismatch far (suc after) t = simp (lt-ltb i m h, missed t)
+    judge-mismatch far zero t = simp (lt-ltb i m h, missed b _ e t)
+    judge-mismatch far (suc after) t = simp (lt-ltb i m h, missed b _ e t)
 
     module _ (t : not b ≡ false) (n : ℕ) where
-      matched : hit k i ≡ true
-      matched = sym e ∙ not-false b t
-
       -- the last step
       module _ (l : n ≤ k + 1) (far : ℕ → Bool) where
         pub judge-trailing : i + 1 < m → TrailingSubjects (k + 1) (i + 1) ≡ judge hit far m (n - (k + 1)) k i
         unfolding judge
-        judge-trailing g = rw (none-left n (k + 1) l) (simp (lt-ltb i m h, matched, lt-ltb (i + 1) m g))
+        judge-trailing g = rw (none-left n (k + 1) l) (simp (lt-ltb i m h, matched b _ e t, lt-ltb (i + 1) m g))
 
         pub judge-fits : m ≤ i + 1 → Fits ≡ judge hit far m (n - (k + 1)) k i
         unfolding judge
-        judge-fits g = rw (none-left n (k + 1) l) (simp (lt-ltb i m h, matched, le-ltb (i + 1) m g))
-
-        pub fits-ends : eqb (i + 1) m ≡ fitsFrom hit far m (n - (k + 1)) k i
-        unfolding fitsFrom
-        fits-ends = rw (none-left n (k + 1) l) (simp (lt-ltb i m h, matched))
+        judge-fits g = rw (none-left n (k + 1) l) (simp (lt-ltb i m h, matched b _ e t, le-ltb (i + 1) m g))
 
       -- a step with more after it
       module _ (l : k + 1 < n) (far : ℕ → Bool) (f : Bool) (c : f ≡ far k) where
-        module _ (g : f ≡ false) where
-          pub judge-child : (d : Diagnosis) → d ≡ judge hit far m (n - (k + 1 + 1)) (k + 1) (i + 1) → d ≡ judge hit far m (n - (k + 1)) k i
-          unfolding judge
-          judge-child d q = rw (one-left n (k + 1) l) (simp (lt-ltb i m h, matched, ← c, g) q)
+        pub judge-child : f ≡ false → (d : Diagnosis) → d ≡ judge hit far m (n - (k + 1 + 1)) (k + 1) (i + 1) → d ≡ judge hit far m (n - (k + 1)) k i
+        unfolding judge
+        judge-child g d q = rw (one-left n (k + 1) l) (simp (lt-ltb i m h, matched b _ e t, ← c, g) q)
 
-          pub fits-child : (r : Bool) → r ≡ fitsFrom hit far m (n - (k + 1 + 1)) (k + 1) (i + 1) → r ≡ fitsFrom hit far m (n - (k + 1)) k i
-          unfolding fitsFrom
-          fits-child r q = rw (one-left n (k + 1) l) (simp (lt-ltb i m h, matched, ← c, g) q)
-
-        module _ (g : f ≡ true) where
-          pub judge-descendant : (d : Diagnosis)
-              → d ≡ tried (MissingDescendant (k + 1) (i + 1)) (spread (judge hit far m (n - (k + 1 + 1)) (k + 1)) (i + 1) (m - (i + 1)))
-              → d ≡ judge hit far m (n - (k + 1)) k i
-          unfolding judge
-          judge-descendant d q = rw (one-left n (k + 1) l) (simp (lt-ltb i m h, matched, ← c, g) q)
-
-          pub fits-descendant : (r : Bool) → r ≡ anyFrom (fitsFrom hit far m (n - (k + 1 + 1)) (k + 1)) (m - (i + 1)) (i + 1) → r ≡ fitsFrom hit far m (n - (k + 1)) k i
-          unfolding fitsFrom
-          fits-descendant r q = rw (one-left n (k + 1) l) (simp (lt-ltb i m h, matched, ← c, g) q)
-
-module _ (f : ℕ → Bool) (m from : ℕ) where
-  pub any-none : m ≤ from → false ≡ anyFrom f (m - from) from
-  unfolding anyFrom
-  any-none h = rw (none-left m from h)
-
-  module _ (h : from < m) (b : Bool) (e : b ≡ f from) where
-    pub any-here : b ≡ true → true ≡ anyFrom f (m - from) from
-    unfolding anyFrom
-    any-here t = rw (one-left m from h, ← e, t)
-
-    pub any-later : b ≡ false → (r : Bool) → r ≡ anyFrom f (m - (from + 1)) (from + 1) → r ≡ anyFrom f (m - from) from
-    unfolding anyFrom
-    any-later t r g = rw (one-left m from h, ← e, t) g
-
-pub ruleset matching = (fits-missing, fits-mismatch, fits-ends, fits-child, fits-descendant, any-none, any-here, any-later)
+        pub judge-descendant : f ≡ true → (d : Diagnosis)
+            → d ≡ tried (MissingDescendant (k + 1) (i + 1)) (spread (judge hit far m (n - (k + 1 + 1)) (k + 1)) (i + 1) (m - (i + 1)))
+            → d ≡ judge hit far m (n - (k + 1)) k i
+        unfolding judge
+        judge-descendant g d q = rw (one-left n (k + 1) l) (simp (lt-ltb i m h, matched b _ e t, ← c, g) q)
 
 -- What was found so far is what would be given if no later place gave an error that counts
 pub tried-one : (last d : Diagnosis) (l : List Diagnosis) → tried last (d ∷ l) ≡ cond (isFit d) Fits (tried (cond (isMismatch d) last d) l)

@@ -14,7 +14,7 @@ use Rattle.selector.specs.Checks.{pathVerdict}
 use Rattle.selector.specs.Matching.{fits, matchingTold, yesNo, matchingOf}
 use Rattle.selector.specs.Diagnosing.{diagnose, diagnosisTold, diagnosisOf}
 use Rattle.selector.proofs.Distinct.{matching-distinct, diagnosis-distinct}
-use Rattle.matching.proofs.Agree.{diagnosis-fits}
+use Rattle.diagnosing.proofs.Agree.{diagnosis-fits}
 
 yes-true : (b : Bool) → yesNo b ≡ Yes → b ≡ true
 yes-true true e = refl
