@@ -66,7 +66,7 @@ use Rattle.promises.specs.Determined.{Determined, DeterminedPart}
 -- ---- any call
 
 module _ {A : Type 0} where
-  -- a contract that says what the answer, or the memory at exit, is. These calls have no other: `lent::Refusal`'s; those of `lent::words` and `lent::sets`;
+  -- a contract that says what the answer, or the memory at exit, is. These calls have no other: `lent::Refusal`'s; those of `lent::words` and of `idset`;
   -- `lent::lists::address`, `cell`, `start_of`; `PropertyId::index`, `compare`; the constructors, `row` and `from_row` of `SelectorInputs` and `SelectorStep`;
   -- those of `TypeChoice` and `PartChoice`; those of `sheet::shape`, `table::shape`, `admit::sources`, `joining::cascades` and `matcher::states`; `root_state`; `cursor::index_after`;
   -- `CascadeEntryKey::compare`; `ChannelSet::contains`, `is_empty`, `len`.
