@@ -1,15 +1,15 @@
 -- The walk over the parent's and the root's cursors, by each way through the code. Assumes nothing.
 use mathlib.Core.Path.{_≡_, refl, sym, ap, _∙_}
 use mathlib.Core.Bool.{Bool, true, false, _||_}
-use mathlib.Core.Logic.{_⊎_, inl, inr}
-use mathlib.Core.List.{List, _++_, flatMap, List·Memᴰ·head}
+use mathlib.Core.Logic.{inl, inr}
+use mathlib.Core.List.{List, _++_, List·Memᴰ·head}
 use Prim.Native.Nat.{ℕ, _+_, _-_, _/_, _≤_, _<_}
 use native.Mathlib.Omega.{arith}
 use lib.ListN.{length, getD, take, drop, take-append-drop}
 use lib.Seq.{length-take-le, drop-cons}
 use lib.Dec.{ltb}
 use borrow.Author.Tests.{lt-ltb, le-ltb, ltb-true, ltb-false}
-use Rattle.theory.specs.Lists.{_∈_, ascends, sort}
+use Rattle.theory.specs.Lists.{_∈_, ascends}
 use Rattle.theory.specs.States.{State, root, enter}
 use Rattle.theory.proofs.Lists.{append-in, or-cases, or-first, or-second}
 use Rattle.idset.specs.Buffers.{Holds}

@@ -21,7 +21,7 @@ use Rattle.sheet.specs.Layout.{rulesIn, stepsIn, stepPlace, STEP-COMBINATOR, ST
 use Rattle.sheet.specs.Sheets.{partAt, ruleStepEnds}
 use Rattle.sheet.specs.Shape.{sheetShape}
 use Rattle.sheet.proofs.Shaped.{shaped, step-start-within}
-use Rattle.sheet.proofs.ReadLaws.{steps-few, rule-steps, rule-steps-end, step-sets, between-past}
+use Rattle.sheet.proofs.ReadLaws.{steps-few, rule-steps-end, step-sets, between-past}
 use Rattle.table.specs.Tables.{selectorsOf}
 use Rattle.table.proofs.Selectors.{selector-past, selector-at, selector-length, selector-part}
 use Rattle.advance.specs.Advancing.{leaves, lists}

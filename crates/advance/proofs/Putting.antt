@@ -10,7 +10,7 @@ use native.Mathlib.Decide.{ℕ-discrete, decLt}
 use lib.ListN.{length, getD, set, take, drop, length-append, length-drop, length-set}
 use lib.Seq.{length-take-le, take-suc, take-suc-set, drop-set-lt, drop-drop}
 use lib.Dec.{ltb, eqb}
-use borrow.Author.Tests.{lt-ltb, eq-eqb, ne-eqb, ltb-true, eqb-true}
+use borrow.Author.Tests.{lt-ltb, eq-eqb, ltb-true, eqb-true}
 use Rattle.theory.specs.Lists.{_∈_, Ascending, insert, sort, only}
 use Rattle.theory.proofs.Lists.{and-left, and-right, append-in, only-in, ascending-ext, insert-skip, sort-in, sort-ascending, sort-snoc, sort-length}
 use Rattle.advance.specs.Collecting.{Free, Put}

@@ -4,7 +4,6 @@ use mathlib.Core.Bool.{cond}
 use mathlib.Core.Option.{Option, none, some}
 use mathlib.Core.List.{List, [], _∷_}
 use Prim.Native.Nat.{ℕ, zero, suc, _+_}
-use native.Mathlib.Omega.{arith}
 use lib.Dec.{eqb}
 use lib.ListN.{getD, length}
 use lib.Seq.{sets}
@@ -16,7 +15,7 @@ use Rattle.winners.specs.declared.Best.{Best}
 use Rattle.keys.specs.declared.CascadeEntryKey.{CascadeEntryKey}
 use Rattle.changeset.specs.declared.Changing.{Changing}
 use Rattle.changeset.specs.Sets.{Lists}
-use Rattle.matcher.proofs.Answers.{accepted, refused}
+use Rattle.lent.proofs.Answers.{accepted, refused}
 use Rattle.looking.specs.declared.Winning.{Winning}
 use Rattle.looking.specs.Answers.{winningTold, winnerTold}
 use Rattle.bench.specs.Numbers.{REFUSED, Outcome}

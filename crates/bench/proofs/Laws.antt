@@ -15,7 +15,7 @@ use Rattle.settle.specs.declared.Settled.{Settled}
 use Rattle.table.specs.Tables.{Table, table}
 use Rattle.table.specs.Entering.{lacksRoom, childOf, entered}
 use Rattle.table.specs.Calls.{buildVerdict, enterVerdict}
-use Rattle.matcher.proofs.Answers.{accepted, refused}
+use Rattle.lent.proofs.Answers.{accepted, refused}
 use Rattle.building.specs.declared.Building.{Building}
 use Rattle.building.specs.Answers.{Build}
 use Rattle.entering.specs.declared.Entering.{Entering}

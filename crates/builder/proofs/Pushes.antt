@@ -1,13 +1,13 @@
 -- The ways out of a push, and that its contract determines answer and memory. Assumes nothing.
 use mathlib.Core.Path.{_≡_, refl, sym, ap, _∙_}
-use mathlib.Core.Bool.{Bool, true, false, cond, not}
+use mathlib.Core.Bool.{true}
 use mathlib.Core.List.{List, [], _∷_, _++_}
 use Prim.Native.Nat.{ℕ, zero, suc, _≤_, _<_}
 use native.Mathlib.Omega.{arith}
 use lib.ListN.{length, getD, replicate}
 use lib.Seq.{sets}
 use borrow.Author.Tests.{lt-ltb, le-ltb, ne-eqb}
-use Rattle.lent.specs.Refusals.{told, refusalOf, check, Check, firstOf, checksBelow}
+use Rattle.lent.specs.Refusals.{refusalOf, check, Check, firstOf, checksBelow}
 use Rattle.lent.specs.declared.Refusal.{Refusal}
 use Rattle.lent.specs.declared.Refusal.the-variants.{BrokenShape}
 use Rattle.lent.proofs.Refusals.{readBack, read-refused, number-positive, named, named-append, named-below, told-first}

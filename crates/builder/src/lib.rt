@@ -2,7 +2,6 @@
 use lent::Refusal;
 use lent::words::copy_into;
 use sheet::layout;
-ghost use mathlib.Core.Path.{_≡_};
 ghost use mathlib.Core.List.{[], _∷_};
 ghost use Rattle.sheet.specs.Laying.{emptied};
 ghost use Rattle.given.specs.Given.{given};

@@ -7,7 +7,7 @@ use Rattle.lent.specs.declared.Refusal.{Refusal}
 use Rattle.table.specs.Tables.{Table}
 use Rattle.table.specs.Entering.{built}
 use Rattle.table.specs.Calls.{buildVerdict}
-use Rattle.matcher.proofs.Answers.{accepted, refused}
+use Rattle.lent.proofs.Answers.{accepted, refused}
 use Rattle.building.specs.Answers.{Build}
 use Rattle.building.specs.declared.Building.{Building}
 

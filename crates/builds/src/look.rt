@@ -21,7 +21,6 @@ use style::ResourceKey;
 use style::StyleValueKind;
 use style::StyleValueRef;
 ghost use Prim.Native.Nat.{_≤_};
-ghost use lib.ListN.{length};
 
 const LOOK: Lists = Lists {
     lengths: 2,

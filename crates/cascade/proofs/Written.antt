@@ -9,13 +9,12 @@ use borrow.Author.Tests.{ne-eqb}
 use Rattle.theory.specs.Lists.{sort}
 use Rattle.theory.proofs.Lists.{sort-ascending}
 use Rattle.idset.specs.Buffers.{Holds}
-use Rattle.lent.specs.Refusals.{refusalOf, Check, check, firstOf}
+use Rattle.lent.specs.Refusals.{refusalOf, Check, firstOf}
 use Rattle.lent.specs.declared.Refusal.{Refusal}
 use Rattle.idset.proofs.Buffers.{held-take}
 use Rattle.lent.proofs.Refusals.{first-stop, first-go, told-first}
 use Rattle.sheet.specs.Shape.{sheetShape}
 use Rattle.table.specs.Tables.{table}
-use Rattle.table.specs.Calls.{broken, notAState}
 use Rattle.building.proofs.Builds.{roots-few}
 use Rattle.channels.specs.Channels.{channelsOf}
 use Rattle.changeset.specs.Marks.{idsIn}

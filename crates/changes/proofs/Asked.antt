@@ -7,7 +7,7 @@ use Prim.Native.Nat.{ℕ, suc, _+_, _-_, _≤_, _<_}
 use native.Mathlib.Omega.{arith}
 use lib.ListN.{length, getD, drop}
 use lib.Dec.{T}
-use Rattle.theory.specs.Lists.{_∈_, member, spread, sort}
+use Rattle.theory.specs.Lists.{_∈_, member, spread}
 use Rattle.theory.specs.Cascade.{properties, sameKey, changed}
 use Rattle.theory.proofs.Lists.{T-is, append-in, flatMap-in, member-is, sort-in, sort-ascending, ascending-select}
 use Rattle.theory.proofs.Changes.{same-key-is}

@@ -10,7 +10,7 @@ use Rattle.table.specs.Tables.{Table}
 use Rattle.table.specs.Entering.{childOf, entered}
 use Rattle.table.specs.Calls.{enterVerdict}
 use Rattle.matcher.specs.declared.MatchState.{MatchState}
-use Rattle.matcher.proofs.Answers.{accepted, refused}
+use Rattle.lent.proofs.Answers.{accepted, refused}
 use Rattle.entering.specs.Answers.{enteringTold, Enter}
 use Rattle.entering.specs.declared.Entering.{Entering}
 

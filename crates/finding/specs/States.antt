@@ -1,4 +1,4 @@
--- A state as the cores that find and write one are lent it. Assumes nothing.
+-- A state as the cores that find and write one are lent it. For contracts within and cores alone. Assumes nothing.
 use mathlib.Core.List.{List}
 use Prim.Native.Nat.{ℕ}
 use Rattle.theory.specs.States.{State}

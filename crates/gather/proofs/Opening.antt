@@ -5,7 +5,6 @@ use Prim.Native.Nat.{ℕ, zero, suc, _*_, _≤_, _<_}
 use native.Mathlib.Omega.{arith}
 use lib.ListN.{length, take}
 use lib.Seq.{length-take-le}
-use borrow.Author.Tests.{ne-eqb}
 use Rattle.given.specs.Given.{Group}
 use Rattle.gather.specs.declared.Filled.{Filled}
 use Rattle.gather.specs.declared.Taken.{Taken}

@@ -2,7 +2,6 @@
 use mathlib.Core.Bool.{Bool, cond, true, false, not, _||_, _&&_}
 use mathlib.Core.List.{List, [], _∷_}
 use Prim.Native.Nat.{ℕ, _+_}
-use lib.ListN.{length}
 use lib.Dec.{eqb, ltb}
 use Rattle.lent.specs.Refusals.{Check, check, firstOf}
 use Rattle.sheet.specs.Layout.{rulesIn, idsIn, stylesIn}

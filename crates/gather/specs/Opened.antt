@@ -1,10 +1,10 @@
 -- The style or group that records 2 to 7 open and fill, in the lists that its push is given: 01, "House records". Assumes nothing.
-use mathlib.Core.Bool.{Bool, cond, true, false}
+use mathlib.Core.Bool.{cond}
 use mathlib.Core.List.{List, [], _∷_, _++_}
-use Prim.Native.Nat.{ℕ, _+_, _-_, _*_, _/_}
+use Prim.Native.Nat.{ℕ, _+_, _-_, _/_}
 use lib.ListN.{length, getD, set, drop}
 use lib.Seq.{sets}
-use lib.Dec.{eqb, ltb}
+use lib.Dec.{eqb}
 use Rattle.selector.specs.Rows.{selectorOf}
 use Rattle.sheet.specs.Laying.{idsHeld}
 use Rattle.given.specs.Given.{Group, given}

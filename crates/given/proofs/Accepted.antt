@@ -1,6 +1,6 @@
 -- What an accepted push satisfies: each check that did not hold, as a proposition. Assumes nothing.
-use mathlib.Core.Path.{_≡_, refl, sym, _∙_}
-use mathlib.Core.Bool.{Bool, true, false, not, _||_}
+use mathlib.Core.Path.{_≡_, refl}
+use mathlib.Core.Bool.{true, false, not}
 use mathlib.Core.List.{List, [], _∷_, _++_}
 use Prim.Native.Nat.{ℕ, zero, suc, _+_, _-_, _*_, _/_, _≤_, _<_}
 use native.Mathlib.Omega.{arith}
@@ -186,9 +186,6 @@ module _ (ids entries : ℕ) (g : Group) where
   -- the sums over all of them
   pub step-total-few : (n : ℕ) → RulesAccepted ids entries g n → stepTotal g n ≤ 8 * n
   step-total-few n a = sum-bound (stepCount g) 8 n (λ k h. a k h .sized .selector .few)
-
-  pub entry-total-few : (n : ℕ) → RulesAccepted ids entries g n → entryTotal g n ≤ 32 * n
-  entry-total-few n a = sum-bound (entryCount g) 32 n (entries-fit n a)
 
   pub id-total-few : (n : ℕ) → ids ≤ 8192 → RulesAccepted ids entries g n → ids + idTotal g n ≤ 8192
   unfolding sumBelow selectorGiven

@@ -1,7 +1,7 @@
 -- Laws of the ids that a selector holds, and of a sheet's counts. Assumes nothing.
-use mathlib.Core.Path.{_≡_, refl, sym, _∙_}
+use mathlib.Core.Path.{_≡_, sym, _∙_}
 use mathlib.Core.List.{List, []}
-use Prim.Native.Nat.{ℕ, _+_, _≤_}
+use Prim.Native.Nat.{ℕ, _+_}
 use native.Mathlib.Omega.{arith}
 use Rattle.theory.specs.Weight.{total}
 use Rattle.theory.proofs.Spreads.{map-spread}

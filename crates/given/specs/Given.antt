@@ -1,5 +1,5 @@
 -- Styles and groups of rules as they are given, in lent lists. Assumes nothing.
-use mathlib.Core.List.{List, [], _∷_}
+use mathlib.Core.List.{List}
 use Prim.Native.Nat.{ℕ, _+_, _*_}
 use lib.ListN.{getD, drop}
 use Rattle.theory.specs.Lists.{spread, sumBelow}

@@ -1,7 +1,7 @@
 -- When a push is refused, and what an accepted one leaves: 01's table, its "Order", and "Weight, winners, changes". Assumes nothing.
 use mathlib.Core.Bool.{Bool, cond, not, _||_}
 use mathlib.Core.List.{List, [], _∷_, _++_, map}
-use Prim.Native.Nat.{ℕ, _+_, _*_, _/_}
+use Prim.Native.Nat.{ℕ, _+_, _/_}
 use lib.ListN.{length}
 use lib.Dec.{ltb}
 use Rattle.theory.specs.Lists.{atMost, sumBelow}

@@ -1,7 +1,7 @@
 -- Laws of the rules of a group: one more rule; their rows, steps, entries and ids, by the counts. Assumes nothing.
-use mathlib.Core.Path.{_≡_, refl, sym, ap, _∙_}
+use mathlib.Core.Path.{_≡_, refl, sym, _∙_}
 use mathlib.Core.Bool.{true}
-use mathlib.Core.List.{List, [], _∷_, _++_, map, flatMap, map-append, append-nil}
+use mathlib.Core.List.{List, [], _∷_, _++_, flatMap}
 use Prim.Native.Nat.{ℕ, zero, suc, _+_, _-_, _*_, _≤_, _<_}
 use native.Mathlib.Nat.{zero-add, add-zero, mul-suc}
 use native.Mathlib.Numerals.{add-one}
@@ -10,7 +10,7 @@ use lib.ListN.{length, getD, drop, length-append, length-drop}
 use lib.Seq.{getD-drop}
 use Rattle.theory.specs.Lists.{spread, sumBelow}
 use Rattle.theory.specs.Paths.{Selector}
-use Rattle.theory.specs.Weight.{Counts, total}
+use Rattle.theory.specs.Weight.{total}
 use Rattle.theory.proofs.Lists.{flatMap-append, sort-length}
 use Rattle.theory.proofs.Spreads.{length-spread, spread-same, spread-more, spread-snoc, spread-shift, sum-bound, flatMap-one, length-rows}
 use Rattle.lent.specs.Pool.{startOf}
@@ -22,7 +22,7 @@ use Rattle.selector.specs.Weighing.{countsOf, countsIn}
 use Rattle.selector.proofs.WeighLaws.{classes-few, pseudos-few, counts-next}
 use Rattle.style.specs.Entries.{Entry, entriesOf}
 use Rattle.sheet.specs.Layout
-use Rattle.sheet.specs.Sheets.{Rule, countsFor}
+use Rattle.sheet.specs.Sheets.{Rule}
 use Rattle.sheet.specs.Laying.{stepWords, stepsWords, ruleWords, ruleEntries, stepsOf, idsHeld}
 use Rattle.laid.proofs.Frame
 use Rattle.laid.proofs.Held.{ids-append}

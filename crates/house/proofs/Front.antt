@@ -4,12 +4,11 @@ use mathlib.Core.Bool.{Bool, cond, true, false, not}
 use mathlib.Core.List.{List, _++_}
 use Prim.Native.Nat.{ℕ, _+_, _-_, _≤_, _<_}
 use native.Mathlib.Omega.{arith}
-use native.Mathlib.Decide.{decLt}
 use lib.ListN.{length, take, drop, length-append, length-drop}
-use borrow.Author.Tests.{leb-false, not-true, not-false}
+use borrow.Author.Tests.{not-true, not-false}
 use Rattle.records.specs.declared.Record.{Record}
 use Rattle.records.specs.Records.{known, kindOf, sizeOf, isWhole, recordIn}
-use Rattle.records.proofs.Records.{size-some, size-most, whole-room, whole-kind}
+use Rattle.records.proofs.Records.{size-some, whole-room, whole-kind}
 use Rattle.house.specs.Memory.{Below, Cut}
 
 abbrev pub tells : Bool → Bool → ℕ
@@ -51,14 +50,6 @@ none-cut bytes h = record { short = by (isWhole bytes) refl; begun = λ l. absur
     by : (b : Bool) → isWhole bytes ≡ b → b ≡ false
     by true e = absurd (omega (arith, whole-room bytes e, size-some (kindOf bytes)))
     by false e = refl
-
--- what is cut short has no more bytes than the longest body
-pub cut-few : (bytes : List ℕ) → Cut bytes → length bytes ≤ 8
-unfolding isWhole
-cut-few bytes c = elim (decLt 0 (length bytes)) [
-  | yes h ↦ omega (arith, leb-false (sizeOf (kindOf bytes)) (length bytes) (rw (c .begun h) at (c .short)), size-most (kindOf bytes))
-  | no h ↦ omega arith
-]
 
 -- a piece from a place on, as the code takes it
 abbrev pub rested : List ℕ → ℕ → List ℕ

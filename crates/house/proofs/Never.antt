@@ -4,7 +4,7 @@ use mathlib.Core.Bool.{true}
 use mathlib.Core.List.{List, [], _∷_}
 use Prim.Native.Nat.{ℕ, suc, _≤_}
 use native.Mathlib.Omega.{arith}
-use lib.ListN.{length, replicate, length-replicate}
+use lib.ListN.{length, length-replicate}
 use borrow.Author.Tests.{le-ltb, le-leb}
 use Rattle.theory.specs.States.{Sheet, starts}
 use Rattle.lent.specs.Refusals.{firstOf}

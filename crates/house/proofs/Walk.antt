@@ -7,7 +7,6 @@ use native.Mathlib.Omega.{arith}
 use lib.ListN.{length, take, drop, length-append, length-drop, take-append-drop}
 use lib.Seq.{length-take-le, take-add, drop-append-le, drop-length}
 use borrow.Author.Tests.{le-leb}
-use Rattle.records.specs.declared.Record.{Record}
 use Rattle.records.specs.Records.{known, kindOf, sizeOf, isWhole, recordIn}
 use Rattle.records.proofs.Records.{size-some, whole-room, whole-known, whole-more, record-more, kind-more}
 use Rattle.wording.specs.Lines.{refusedLine}

@@ -1,9 +1,9 @@
 -- What `walk` prints, from the input's bytes: 01, "House records and the program `walk`". Assumes nothing.
-use mathlib.Core.Bool.{Bool, cond, true, false}
+use mathlib.Core.Bool.{cond, true, false}
 use mathlib.Core.List.{List, [], _∷_, _++_}
 use Prim.Native.Nat.{ℕ, zero, suc, _+_, _*_}
 use lib.ListN.{length, drop, replicate}
-use lib.Dec.{eqb, ltb}
+use lib.Dec.{eqb}
 use Rattle.lent.specs.Refusals.{check, firstOf}
 use Rattle.sheet.specs.Layout.{SHEET-WORDS}
 use Rattle.sheet.specs.Laying.{emptied}

@@ -1,4 +1,4 @@
-// Lists of numbers that anyone may give: `is_sorted_unique` and the order of slices in the Rust.
+// Ascending lists of numbers, `IdSet` in the Rust: here its `is_sorted_unique` and the order of slices, on lists that anyone may give.
 ghost use mathlib.Core.Path.{_≡_};
 ghost use Rattle.theory.specs.Lists.{ascends, atMost, compare};
 

@@ -1,5 +1,6 @@
 pub mod All
 pub mod Refusals
+pub mod Answers
 pub mod Copying
 pub mod Placing
 pub mod Pool

@@ -1,4 +1,4 @@
-// What every crate above leans on: the numbers given back on refusal, and lists of numbers in lent words.
+// The numbers given back on refusal, words lent in a slice, and lists end to end over a pool.
 ghost use mathlib.Core.Path.{_≡_};
 ghost use Rattle.lent.specs.Refusals.{numberOf, refusalOf};
 

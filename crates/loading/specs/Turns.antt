@@ -1,4 +1,4 @@
--- What the turns keep. Assumes nothing.
+-- What the turns keep. For contracts within and cores alone. Assumes nothing.
 use mathlib.Core.Path.{_≡_}
 use mathlib.Core.Bool.{true}
 use mathlib.Core.List.{List}

@@ -1,27 +1,26 @@
 -- The ways through the functions that take a record of those up to kind 8. Assumes nothing.
 use mathlib.Core.Path.{_≡_, refl, sym, _∙_, subst}
-use mathlib.Core.Bool.{cond, true, false}
+use mathlib.Core.Bool.{cond, false}
 use mathlib.Core.List.{List, []}
 use Prim.Native.Nat.{ℕ, _+_, _≤_, _<_}
 use native.Mathlib.Omega.{arith}
 use native.Mathlib.Decide.{ℕ-discrete}
 use lib.ListN.{replicate, length-replicate}
 use lib.Seq.{sets}
-use lib.Dec.{eqb, ltb}
+use lib.Dec.{eqb}
 use borrow.Author.Tests.{le-ltb, lt-ltb, eq-eqb, ne-eqb}
 use Rattle.lent.specs.Refusals.{firstOf}
 use Rattle.sheet.specs.Layout.{SHEET-WORDS}
 use Rattle.sheet.specs.Laying.{emptied}
-use Rattle.sheet.specs.Shape.{sheetShape}
 use Rattle.given.specs.Given.{Group}
 use Rattle.laid.proofs.Emptied.{shape-emptied}
 use Rattle.records.specs.declared.Record.{Record}
 use Rattle.records.specs.Records.{sizeOf, recordIn}
 use Rattle.gather.specs.declared.Filled.{Filled}
 use Rattle.gather.specs.declared.Taken.{Taken}
-use Rattle.gather.specs.Opened.{Open, nothing}
+use Rattle.gather.specs.Opened.{nothing}
 use Rattle.gather.specs.Making.{makingVerdict, sheetAfter, openAfter}
-use Rattle.gather.specs.Memory.{openOf, Roomy, Sound, Takes}
+use Rattle.gather.specs.Memory.{openOf, Roomy, Takes}
 use Rattle.wording.specs.Lines.{refusedLine}
 use Rattle.house.specs.declared.Making.{Making}
 use Rattle.house.specs.House.{first, making, stops, leads, emptySheet, firstVerdict, makingOutcome, outcome}

@@ -1,4 +1,3 @@
 -- The ways out of the calls on a table's states, and what answers mean.
 pub mod Listed
-pub mod Answers
 pub mod Distinct

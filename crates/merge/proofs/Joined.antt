@@ -8,11 +8,10 @@ use native.Mathlib.Nat.{zero-add, add-zero, mul-suc}
 use native.Mathlib.Numerals.{add-one}
 use native.Mathlib.Omega.{arith}
 use lib.ListN.{length, getD, take, drop, length-append}
-use lib.Seq.{sets}
 use lib.Dec.{leb}
 use borrow.Author.Tests.{lt-ltb, le-ltb, leb-true}
-use Rattle.theory.specs.Lists.{ascends, atMost, sort, spread}
-use Rattle.theory.proofs.Lists.{le-or-lt, and-left, and-right, ascending-ext, ascends-is, sort-in, sort-ascending, flatMap-append}
+use Rattle.theory.specs.Lists.{ascends, atMost, spread}
+use Rattle.theory.proofs.Lists.{le-or-lt, and-left, and-right, flatMap-append}
 use Rattle.theory.proofs.Spreads.{length-spread, spread-same, spread-snoc, spread-shift, map-spread, part-spread, flatMap-one, at-most-append}
 use Rattle.lent.specs.Pool.{endsIn, startOf}
 use Rattle.selector.specs.Tags.{Tags, asSets}

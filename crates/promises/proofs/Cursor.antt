@@ -1,5 +1,5 @@
 -- 01, "`RuleCursor` keeps its place in that part and yields rule numbers, ascending": a cursor over what `matching_rules` gives of a reached state. Assumes nothing.
-use mathlib.Core.Path.{_≡_, sym, _∙_}
+use mathlib.Core.Path.{_≡_, _∙_}
 use mathlib.Core.List.{List}
 use Prim.Native.Nat.{ℕ, _≤_}
 use lib.ListN.{length}

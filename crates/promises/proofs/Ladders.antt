@@ -24,7 +24,7 @@ use Rattle.selector.specs.declared.Diagnosis.the-variants as diagnosis
 use Rattle.style.specs.Entries.{Entry}
 use Rattle.style.specs.Looking.{kindOf, plainOf, resourceOf, placeIn}
 use Rattle.reading.specs.Reading.{entryNumbers, combinatorNumbers}
-use Rattle.matcher.proofs.Answers.{accepted}
+use Rattle.lent.proofs.Answers.{accepted}
 use Rattle.winners.specs.Winners.{Place, style, rule}
 use Rattle.looking.specs.Answers.{winnerTold}
 use Rattle.promises.specs.Refusing.{First, here, later, None, InTurn, Refusing, Guarding}

@@ -29,7 +29,7 @@ use Rattle.sheet.specs.Layout.{rulesIn}
 use Rattle.sheet.specs.Shape.{sheetShape}
 use Rattle.weighed.specs.Weighing.{weightFrom}
 use Rattle.reading.specs.Reading.{weightVerdict}
-use Rattle.matcher.proofs.Answers as answers
+use Rattle.lent.proofs.Answers as answers
 use Rattle.promises.specs.Level3.{Standard}
 
 -- ---- a weight that is answered

@@ -1,4 +1,4 @@
-// No code. Here a reader starts: the demands, each in one file, of the answers and memory that the calls' contracts allow; the rest of proofs/ is what they cite.
+// No code. Here a reader starts: the demands, each in one file (the first in two), of the answers and memory that the calls' contracts allow; the rest of proofs/ is what they cite.
 // Demand1: which refusal each call of 01's "Order" gives, and that a refused call writes nothing; Demand1Rest, the other calls that can refuse.
 // Demand2: matching, diagnosis, matched lists and the standard weight against W3C Selectors Level 3.
 // Demand3: its three clauses, for calls made in any order.

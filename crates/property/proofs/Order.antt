@@ -1,10 +1,9 @@
 -- The order of two numbers, by which is the lesser. Assumes nothing.
-use mathlib.Core.Path.{_≡_, refl, sym, _∙_}
+use mathlib.Core.Path.{_≡_, sym, _∙_}
 use mathlib.Core.List.{[]}
 use Prim.Native.Nat.{ℕ, _≤_, _<_}
 use native.Mathlib.Omega.{arith}
 use lib.IntN.{pos, negsuc}
-use Rattle.theory.specs.Lists.{compare}
 use Rattle.theory.proofs.Compare.{compare-less, compare-more, compare-same, compare-refl}
 use Rattle.property.specs.Order.{orderOf}
 

@@ -4,14 +4,14 @@ use mathlib.Core.Bool.{true}
 use mathlib.Core.Option.{Option, none, some}
 use mathlib.Core.List.{List}
 use Prim.Native.Nat.{ℕ, _+_, _-_, _≤_, _<_}
-use native.Mathlib.Nat.{add-zero, zero-add}
+use native.Mathlib.Nat.{add-zero}
 use native.Mathlib.Omega.{arith}
 use lib.ListN.{length, getD, getElem?, drop}
 use lib.Seq.{getD-drop}
 use borrow.Author.Tests.{lt-ltb}
 use Rattle.theory.specs.Lists.{spread}
 use Rattle.theory.specs.Paths.{Part}
-use Rattle.theory.proofs.Spreads.{getElem?-spread, getD-spread, spread-same, spread-shift, part-spread}
+use Rattle.theory.proofs.Spreads.{getD-spread, spread-same, spread-shift, part-spread}
 use Rattle.lent.specs.Pool.{startOf}
 use Rattle.selector.specs.Tags.{Tags}
 use Rattle.selector.specs.Rows.{rowAt, wordsFrom}
@@ -19,23 +19,13 @@ use Rattle.typed.specs.Typed.{typeOf, typeFrom, partOf, partFrom}
 use Rattle.typed.specs.declared.ClassId.{ClassId}
 use Rattle.typed.specs.declared.PseudoClassId.{PseudoClassId}
 use Rattle.steps.specs.Steps.{stepTags, stepFrom}
-use Rattle.sheet.specs.Layout.{rulesIn, stepsIn, stylesIn, stepPlace}
-use Rattle.sheet.specs.Sheets.{partAt, ruleAt, styleAt, sheetOf, ruleStepEnds}
+use Rattle.sheet.specs.Layout.{rulesIn, stepsIn, stepPlace}
+use Rattle.sheet.specs.Sheets.{partAt, ruleAt, ruleStepEnds}
 use Rattle.sheet.specs.Shape.{sheetShape}
 use Rattle.sheet.proofs.ReadLaws.{room, steps-few, step-ids, rule-steps-end, tags-same, length-between, between-at}
 use Rattle.reading.specs.declared.StepAnswer.{StepAnswer}
 use Rattle.reading.specs.Reading.{ruleVerdict, StepRead}
 use Rattle.reading.proofs.Answers.{verdict-there}
-
--- ---- rules and styles
-
-pub rule-of-sheet : (w : List ℕ) (r : ℕ) → r < rulesIn w → getElem? (sheetOf w .rules) r ≡ some (ruleAt w r)
-unfolding sheetOf
-rule-of-sheet w r h = getElem?-spread (ruleAt w) 0 (rulesIn w) r h ∙ rw zero-add
-
-pub style-of-sheet : (w : List ℕ) (d : ℕ) → d < stylesIn w → getElem? (sheetOf w .styles) d ≡ some (styleAt w d)
-unfolding sheetOf
-style-of-sheet w d h = getElem?-spread (styleAt w) 0 (stylesIn w) d h ∙ rw zero-add
 
 -- ---- steps
 

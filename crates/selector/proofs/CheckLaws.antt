@@ -1,6 +1,6 @@
 -- Laws of the checks, by each way through the code. Assumes nothing.
 use mathlib.Core.Path.{_≡_, refl, sym, ap, _∙_}
-use mathlib.Core.Bool.{Bool, true, false, not, _||_}
+use mathlib.Core.Bool.{Bool, true, false, not}
 use mathlib.Core.List.{List, [], _∷_}
 use mathlib.Core.Logic.{⊎-elim}
 use Prim.Native.Nat.{ℕ, _+_, _-_, _*_, _/_, _≤_, _<_}
@@ -11,7 +11,7 @@ use borrow.Author.Tests.{lt-ltb, le-ltb, le-leb, lt-leb, ltb-false, not-false}
 use Rattle.theory.specs.Lists.{ascends}
 use Rattle.theory.proofs.Lists.{or-first, or-second, le-or-lt}
 use Rattle.lent.specs.All.{allBelow}
-use Rattle.lent.specs.Refusals.{check, Check, firstOf}
+use Rattle.lent.specs.Refusals.{check, firstOf}
 use Rattle.lent.proofs.All.{Sofar, sofar-start, sofar-done, sofar-more, sofar-fails}
 use Rattle.lent.proofs.Refusals.{first-under, first-clear}
 use Rattle.selector.specs.Rows.{wordsFrom, rowAt}

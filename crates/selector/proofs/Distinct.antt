@@ -1,12 +1,10 @@
 -- Two answers that tell the same numbers are the same: what a contract says of an answer's numbers determines the answer. Assumes nothing.
 use mathlib.Core.Path.{_≡_, refl, sym, ap, _∙_}
-use mathlib.Core.Logic.{_↔_}
-use mathlib.Core.Bool.{Bool, true, false, cond}
+use mathlib.Core.Bool.{cond}
 use mathlib.Core.List.{List, [], _∷_}
 use Prim.Native.Nat.{ℕ}
 use lib.ListN.{getD}
 use lib.Dec.{eqb}
-use Rattle.lent.specs.Refusals.{told}
 use Rattle.lent.proofs.Refusals.{readBack, read-refused}
 use Rattle.selector.specs.declared.Matching.{Matching}
 use Rattle.selector.specs.declared.Matching.the-variants as matching

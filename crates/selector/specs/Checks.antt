@@ -1,5 +1,5 @@
 -- When a path call refuses, and what: 01's table and its "Order". Assumes nothing.
-use mathlib.Core.Bool.{Bool, true, false, _&&_, _||_, not}
+use mathlib.Core.Bool.{Bool, _&&_, _||_, not}
 use mathlib.Core.List.{List, [], _∷_}
 use Prim.Native.Nat.{ℕ, _+_, _-_, _*_, _/_}
 use lib.ListN.{length, getD}
@@ -8,7 +8,7 @@ use Rattle.theory.specs.Lists.{ascends}
 use Rattle.lent.specs.Refusals.{check, firstOf}
 use Rattle.lent.specs.All.{allBelow}
 use Rattle.selector.specs.Tags.{Tags}
-use Rattle.selector.specs.Rows.{rowAt, subjectAt}
+use Rattle.selector.specs.Rows.{subjectAt}
 
 -- the counts of a row, as given
 abbrev pub rowFits : ℕ → List ℕ → ℕ → Bool

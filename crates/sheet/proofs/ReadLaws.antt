@@ -46,9 +46,6 @@ module _ (w : List ℕ) (shape : sheetShape w ≡ true) where
   pub rule-steps : (r : ℕ) → r < rulesIn w → (startOf (ruleStepEnds w) r ≤ ruleStepEnds w r) × (ruleStepEnds w r - startOf (ruleStepEnds w) r ≤ 8)
   rule-steps r h = list-few (shaped w shape .each-rule r h .steps)
 
-  pub rule-entries : (r : ℕ) → r < rulesIn w → (startOf (ruleEntryEnds w) r ≤ ruleEntryEnds w r) × (ruleEntryEnds w r - startOf (ruleEntryEnds w) r ≤ 32)
-  rule-entries r h = list-few (shaped w shape .each-rule r h .entries)
-
   pub style-entries : (d : ℕ) → d < stylesIn w → (startOf (styleEntryEnds w) d ≤ styleEntryEnds w d) × (styleEntryEnds w d - startOf (styleEntryEnds w) d ≤ 32)
   style-entries d h = list-few (shaped w shape .each-style d h .entries)
 

@@ -334,16 +334,6 @@ module _ {w : List ℕ} (s : Shaped w) where
   pub style-entries-rising : Rising (Layout.stylesIn w) (styleEntryEnds w)
   style-entries-rising k h = s .each-style k h .entries .up
 
-  -- so the starts never fall
-  pub step-starts-rise : (i j : ℕ) → i ≤ j → j ≤ Layout.rulesIn w → startOf (ruleStepEnds w) i ≤ startOf (ruleStepEnds w) j
-  step-starts-rise i j h g = starts-rise (ruleStepEnds w) (Layout.rulesIn w) i j steps-rising h g
-
-  pub entry-starts-rise : (i j : ℕ) → i ≤ j → j ≤ Layout.rulesIn w → startOf (ruleEntryEnds w) i ≤ startOf (ruleEntryEnds w) j
-  entry-starts-rise i j h g = starts-rise (ruleEntryEnds w) (Layout.rulesIn w) i j entries-rising h g
-
-  pub style-entry-starts-rise : (i j : ℕ) → i ≤ j → j ≤ Layout.stylesIn w → startOf (styleEntryEnds w) i ≤ startOf (styleEntryEnds w) j
-  style-entry-starts-rise i j h g = starts-rise (styleEntryEnds w) (Layout.stylesIn w) i j style-entries-rising h g
-
   -- each start and each end is within what is there
   pub step-start-within : (r : ℕ) → r ≤ Layout.rulesIn w → startOf (ruleStepEnds w) r ≤ Layout.stepsIn w
   step-start-within r h = start-within (ruleStepEnds w) (Layout.rulesIn w) (Layout.stepsIn w) steps-rising (s .steps-end) r h
@@ -351,14 +341,8 @@ module _ {w : List ℕ} (s : Shaped w) where
   pub step-end-within : (r : ℕ) → r < Layout.rulesIn w → ruleStepEnds w r ≤ Layout.stepsIn w
   step-end-within r h = end-within (ruleStepEnds w) (Layout.rulesIn w) (Layout.stepsIn w) steps-rising (s .steps-end) r h
 
-  pub entry-start-within : (r : ℕ) → r ≤ Layout.rulesIn w → startOf (ruleEntryEnds w) r ≤ Layout.entriesIn w
-  entry-start-within r h = start-within (ruleEntryEnds w) (Layout.rulesIn w) (Layout.entriesIn w) entries-rising (s .entries-end) r h
-
   pub entry-end-within : (r : ℕ) → r < Layout.rulesIn w → ruleEntryEnds w r ≤ Layout.entriesIn w
   entry-end-within r h = end-within (ruleEntryEnds w) (Layout.rulesIn w) (Layout.entriesIn w) entries-rising (s .entries-end) r h
-
-  pub style-entry-start-within : (d : ℕ) → d ≤ Layout.stylesIn w → startOf (styleEntryEnds w) d ≤ Layout.styleEntriesIn w
-  style-entry-start-within d h = start-within (styleEntryEnds w) (Layout.stylesIn w) (Layout.styleEntriesIn w) style-entries-rising (s .style-entries-end) d h
 
   pub style-entry-end-within : (d : ℕ) → d < Layout.stylesIn w → styleEntryEnds w d ≤ Layout.styleEntriesIn w
   style-entry-end-within d h = end-within (styleEntryEnds w) (Layout.stylesIn w) (Layout.styleEntriesIn w) style-entries-rising (s .style-entries-end) d h

@@ -1,6 +1,6 @@
 -- Laws of a style's checks, by each way through the code. Assumes nothing.
 use mathlib.Core.Path.{_≡_, refl, sym, _∙_}
-use mathlib.Core.Bool.{Bool, true, false, not, _||_}
+use mathlib.Core.Bool.{Bool, true, false, not}
 use mathlib.Core.List.{List, [], _∷_}
 use Prim.Native.Nat.{ℕ, zero, suc, _+_, _-_, _≤_, _<_}
 use native.Mathlib.Omega.{arith}
@@ -10,7 +10,7 @@ use lib.Dec.{ltb, leb}
 use borrow.Author.Tests.{lt-ltb, le-ltb, ltb-false, leb-true, not-false}
 use Rattle.theory.specs.Lists.{ascends, atMost}
 use Rattle.theory.proofs.Lists.{or-first, or-second, and-left, and-right}
-use Rattle.lent.specs.Refusals.{check, Check, firstOf}
+use Rattle.lent.specs.Refusals.{firstOf}
 use Rattle.lent.proofs.Refusals.{first-under, first-clear}
 use Rattle.style.specs.Checks.{entriesOver, kindsOver, propertiesOff, styleVerdict}
 

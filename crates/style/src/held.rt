@@ -10,7 +10,7 @@ ghost use mathlib.Core.Path.{_≡_};
 ghost use mathlib.Core.Bool.{false};
 ghost use mathlib.Core.List.{[], _∷_};
 ghost use Prim.Native.Nat.{_≤_};
-ghost use lib.ListN.{length, take, drop, replicate};
+ghost use lib.ListN.{length, take, replicate};
 ghost use lib.Seq.{sets};
 ghost use Rattle.style.specs.Checks.{entriesOver, kindsOver, propertiesOff, styleVerdict};
 ghost use Rattle.style.specs.Looking.{kindTold, plainTold, resourceTold, placeOf, plainKind, resourceKind};

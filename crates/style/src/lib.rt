@@ -4,10 +4,7 @@ use lent::words::wide;
 use lent::words::word;
 ghost use mathlib.Core.Path.{_≡_};
 ghost use mathlib.Core.List.{[], _∷_};
-ghost use Prim.Native.Nat.{_≤_};
-ghost use lib.ListN.{length, take};
-ghost use Rattle.style.specs.Checks.{entriesOver, kindsOver, propertiesOff, styleVerdict};
-ghost use Rattle.style.specs.Looking.{containingTold, positionTold, kindTold, plainTold, resourceTold, lengthTold, placeOf, kindOf, plainOf, resourceOf, styleAnswer, found, containingOf, positionOf, Ids};
+ghost use Rattle.style.specs.Looking.{containingTold, positionTold, kindTold, plainTold, resourceTold, lengthTold, kindOf, plainOf, resourceOf, styleAnswer, found, containingOf, positionOf, Ids};
 
 pub mod held;
 

@@ -7,8 +7,7 @@ use mathlib.Core.List.{List, [], _∷_, _++_, List·Memᴰ·head, List·Memᴰ·
 use Prim.Native.Nat.{ℕ, zero, suc, _<_}
 use native.Mathlib.Omega.{arith}
 use native.Mathlib.Decide.{decLt}
-use lib.ListN.{length, getElem?, getD, take}
-use lib.Seq.{take-suc}
+use lib.ListN.{getElem?}
 use lib.Dec.{T}
 use lib.IntN.{pos, negsuc, pos-ne-negsuc}
 use Rattle.theory.specs.Lists.{_∈_}
@@ -238,7 +237,3 @@ module _ {Source : Type 0} (key : Source → ℕ → Key) (holds : Source → �
       at : (b : Bool) (o : Option Source) → best p o (cond b (some t) none) ≡ cond b (best p o (some t)) o
       at true o = refl
       at false o = best-none p o
-
-  -- one turn of a loop over the sources
-  pub winner-next : (l : List Source) (i : ℕ) (d : Source) (p : ℕ) → i < length l → winner key holds (take (suc i) l) p ≡ then p (winner key holds (take i l) p) (getD l i d)
-  winner-next l i d p h = rw (take-suc l i d h) (winner-snoc (take i l) (getD l i d) p)

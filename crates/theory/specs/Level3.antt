@@ -1,8 +1,8 @@
 -- W3C Selectors Level 3 (Recommendation, 6 November 2018), read alone: when a selector represents an element, and how specific it is. Assumes nothing.
 use mathlib.Core.Logic.{_⊎_}
-use mathlib.Core.Bool.{Bool, true, false}
+use mathlib.Core.Bool.{Bool}
 use mathlib.Core.List.{List, [], _∷_}
-use Prim.Native.Nat.{ℕ, zero, suc, _+_}
+use Prim.Native.Nat.{ℕ, _+_}
 use lib.Dec.{T}
 
 -- §4: a selector is a chain of one or more sequences of simple selectors, separated by combinators. A step stands for a sequence

@@ -1,6 +1,5 @@
 -- 01's words read in Level 3's: a selector as a chain, a path as its last element, a step's counts as simple selectors. Assumes nothing.
 use mathlib.Core.List.{List, [], _∷_, _++_, flatMap}
-use Prim.Native.Nat.{ℕ}
 use lib.Dec.{eqb}
 use lib.ListN.{replicate}
 use Rattle.theory.specs.Paths.{Comb, child, descendant, Part, Selector}

@@ -7,7 +7,6 @@ use lib.ListN.{length, drop, replicate}
 use lib.Dec.{eqb}
 use borrow.Author.Tests.{eqb-true}
 use Rattle.table.specs.Tables.{Table, rankingIn, stampIn}
-use Rattle.table.specs.Entering.{built}
 use Rattle.table.specs.Calls.{buildVerdict}
 use Rattle.table.proofs.Shaped.{unshaped}
 use Rattle.winners.specs.Winners.{winnerOf}

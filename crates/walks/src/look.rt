@@ -1,4 +1,4 @@
-// Rules, winners, changes and channels of a table's states.
+// States, and what a table's states are asked: rules, winners, changes and channels.
 use crate::half;
 use crate::tell;
 use building::root_state;

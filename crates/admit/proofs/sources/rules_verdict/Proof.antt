@@ -1,6 +1,5 @@
 use borrow.Author.Needs.{needs}
 use Prim.Native.Nat.{_-_}
-use native.Mathlib.Omega.{arith}
 use Rattle.given.specs.Given.{given}
 use Rattle.admit.proofs.Rules.{Judging, judging-start, judging-stop, judging-next, judging-end, judged-rows}
 use Rattle.admit.proofs.sources.rules_verdict.Statement.{statement}

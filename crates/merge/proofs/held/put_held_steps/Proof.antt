@@ -1,5 +1,4 @@
 use Prim.Native.Nat.{_-_}
-use native.Mathlib.Omega.{arith}
 use Rattle.sheet.specs.Layout.{stepPlace}
 use Rattle.sheet.specs.Sheets.{partAt}
 use Rattle.sheet.specs.Laying.{stepWords}

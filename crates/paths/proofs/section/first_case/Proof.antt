@@ -3,7 +3,6 @@ use mathlib.Core.Path.{sym}
 use native.Mathlib.Omega.{arith}
 use lib.ListN.{length-take}
 use lib.Seq.{length-take-le}
-use borrow.Author.Needs.{needs}
 use Rattle.paths.proofs.section.first_case.Statement.{statement}
 use Rattle.paths.proofs.section.first_case.Tie as tie
 
