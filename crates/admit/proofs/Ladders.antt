@@ -48,6 +48,14 @@ module _ (k n x a : ℕ) (e : x ≡ a) (l : List Check) where
   pub read-pass : x ≤ n → (r : ℕ) → r ≡ firstOf l → r ≡ firstOf (check k (ltb n a) ∷ l)
   read-pass h r g = limit-pass k r n a l (omega arith) g
 
+-- of one more than such a number
+module _ (k n x a : ℕ) (e : x ≡ a) (l : List Check) where
+  pub next-hit : n ≤ x → k ≡ firstOf (check k (ltb n (a + 1)) ∷ l)
+  next-hit h = limit-hit k n (a + 1) l (omega arith)
+
+  pub next-pass : x < n → (r : ℕ) → r ≡ firstOf l → r ≡ firstOf (check k (ltb n (a + 1)) ∷ l)
+  next-pass h r g = limit-pass k r n (a + 1) l (omega arith) g
+
 -- of a sum of such a number and another
 module _ (k n x a y : ℕ) (e : x ≡ a) (l : List Check) where
   pub sum-hit : n < x + y → k ≡ firstOf (check k (ltb n (a + y)) ∷ l)
@@ -64,7 +72,7 @@ module _ (k most ids : ℕ) (steps combinators : List ℕ) (n x : ℕ) (e : Ids 
   pub ids-pass : ids + x ≤ most → (r : ℕ) → r ≡ firstOf l → r ≡ firstOf (check k (ltb most (ids + idsHeld (selectorOf steps combinators n))) ∷ l)
   ids-pass h r g = limit-pass k r most _ l (omega (arith, e .same, ids-untied steps combinators [] n)) g
 
-pub ruleset ladder = (first-hit, first-pass, first-end, unless-hit, unless-pass, limit-hit, limit-pass, read-hit, read-pass, sum-hit, sum-pass)
+pub ruleset ladder = (first-hit, first-pass, first-end, unless-hit, unless-pass, limit-hit, limit-pass, read-hit, read-pass, next-hit, next-pass, sum-hit, sum-pass)
 
 -- ---- what a callee asks
 

@@ -49,7 +49,7 @@ fn form_verdict(properties: &[u16], kinds: &[u32], n: usize) -> u32
 fn style_sizes(sheet: &[u32], properties: &[u16], kinds: &[u32], numbers: &[u32], n: usize) -> u32
     ensures { λ r. ⌜ r ≡ firstOf (styleSizeChecks (now (sheet .entry)) (now (properties .entry)) (now (kinds .entry)) (now (numbers .entry)) n) ⌝ }
 {
-    if 63 < word(sheet, layout::STYLES) {
+    if 64 <= word(sheet, layout::STYLES) {
         return 2;
     }
     if entries_over(properties, kinds, numbers, n) {

@@ -8,7 +8,8 @@ use native.Mathlib.Omega.{arith}
 use lib.ListN.{length, getD, drop}
 use lib.Dec.{T}
 use Rattle.theory.specs.Lists.{_∈_, member, spread}
-use Rattle.theory.specs.Cascade.{properties, sameKey, changed}
+use Rattle.theory.specs.Sizes
+use Rattle.theory.specs.Cascade.{sameKey, changed}
 use Rattle.theory.proofs.Lists.{T-is, append-in, flatMap-in, member-is, sort-in, sort-ascending, ascending-select}
 use Rattle.theory.proofs.Changes.{same-key-is}
 use Rattle.lent.specs.Pool.{startOf}
@@ -110,7 +111,7 @@ module _ (w : List ℕ) (shape : sheetShape w ≡ true) where
   changed-asked ranking old new a b =
       let f = differing w ranking old new in
       let l = asked w old new in
-      sym (ascending-select f properties (keep f l) (keep-ascending f l (sort-ascending _)) (λ c. (
+      sym (ascending-select f Sizes.PROPERTY-IDS (keep f l) (keep-ascending f l (sort-ascending _)) (λ c. (
         λ h. let (m, t) = keep-in f l c .0 h in (omega (arith, asked-few old new a b c m), t),
         λ h. keep-in f l c .1 (is-asked c (h .1) (member c l) refl, h .1),
       )))

@@ -9,7 +9,7 @@ use mir.Syntax.{w16}
 use mir.Val.{Fits}
 use borrow.Author.Tests.{ne-eqb}
 use Rattle.theory.specs.Lists.{insert, only, sort, spread}
-use Rattle.theory.specs.Cascade.{properties}
+use Rattle.theory.specs.Sizes
 use Rattle.theory.proofs.Lists.{flatMap-append, select-ascending}
 use Rattle.theory.proofs.Spreads.{flatMap-one}
 use Rattle.style.specs.Entries.{Entry}
@@ -47,7 +47,7 @@ marking-start {w} {base} {room} {n} {m₀} h = let z : base - base ≡ 0 = omega
   half = h;
   low = omega arith;
   high = omega arith;
-  ids = rw z (unfold flatMap idsIn in sym (sort-ascended _ (select-ascending (marked m₀) properties)));
+  ids = rw z (unfold flatMap idsIn in sym (sort-ascended _ (select-ascending (marked m₀) Sizes.PROPERTY-IDS)));
 }
 
 module _ {w : List ℕ} {base room n : ℕ} {m₀ : List ℕ} {e : ℕ} {m : List ℕ} (s : Marking w base room n m₀ e m) where

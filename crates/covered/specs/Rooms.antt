@@ -4,6 +4,7 @@ use mathlib.Core.Bool.{Bool, true, false, _&&_, _||_, cond}
 use mathlib.Core.List.{List, [], _∷_, _++_}
 use Prim.Native.Nat.{ℕ, _+_, _*_, _≤_}
 use lib.ListN.{length}
+use Rattle.theory.specs.Sizes
 use Rattle.theory.specs.States.{State, Sheet, root, enter}
 use Rattle.selector.specs.Tags.{Tags, stepMatches}
 use Rattle.selector.specs.Checks.{tagsAscend}
@@ -43,7 +44,7 @@ numbersOf f (s ∷ held) = length (f s) + numbersOf f held
 
 -- room for all of these states
 pub record Enough (all : List State) (t : Table) : Type 0 where
-  pub few : length all ≤ 512
+  pub few : length all ≤ Sizes.STATES
   pub states : 3 * length all ≤ length (t .states)
   pub cursors : numbersOf (λ s. s .cursors) all ≤ length (t .cursors)
   pub matched : numbersOf (λ s. s .matched) all ≤ length (t .matched)
@@ -54,8 +55,8 @@ Roomy w path t = Enough (statesFor w path) t
 
 -- a subject that refusals 2 and 1 let pass
 pub record Proper (x : SelectorInputs) : Type 0 where
-  pub classes : x .«class_count» ≤ 16
-  pub pseudos : x .«pseudo_count» ≤ 16
+  pub classes : x .«class_count» ≤ Sizes.SUBJECT-IDS
+  pub pseudos : x .«pseudo_count» ≤ Sizes.SUBJECT-IDS
   pub rise : tagsAscend (inputsTags x) ≡ true
 
 -- ---- what entering subject after subject answers, each under the child before: the refusals, 0 for none

@@ -3,6 +3,7 @@ use mathlib.Core.Bool.{Bool, cond, true, false, not, _||_, _&&_}
 use mathlib.Core.List.{List, [], _∷_}
 use Prim.Native.Nat.{ℕ, _+_}
 use lib.Dec.{eqb, ltb}
+use Rattle.theory.specs.Sizes
 use Rattle.lent.specs.Refusals.{Check, check, firstOf}
 use Rattle.sheet.specs.Layout.{rulesIn, idsIn, stylesIn}
 use Rattle.given.specs.Given.{Group}
@@ -42,25 +43,25 @@ lastEntries o = cond (isDirect o) (entriesGiven (groupOf o)) (lastOf (groupOf o)
 
 -- "the ranking .. over 1"
 abbrev pub sheetFaults : ℕ → List Check
-sheetFaults ranking = check 6 (ltb 1 ranking) ∷ []
+sheetFaults ranking = check 6 (ltb Sizes.RANKING ranking) ∷ []
 
 -- a direct style: "an origin rank is over 7"; "direct styles 0 to 64", the open one among them
 abbrev pub directFaults : List ℕ → Open → ℕ → List Check
-directFaults w o origin = check 6 (ltb 7 origin) ∷ check 2 (ltb 64 (stylesIn w + cond (isDirect o) 1 0 + 1)) ∷ []
+directFaults w o origin = check 6 (ltb Sizes.ORIGIN origin) ∷ check 2 (ltb Sizes.STYLES (stylesIn w + cond (isDirect o) 1 0 + 1)) ∷ []
 
 abbrev pub groupFaults : ℕ → List Check
-groupFaults origin = check 6 (ltb 7 origin) ∷ []
+groupFaults origin = check 6 (ltb Sizes.ORIGIN origin) ∷ []
 
 -- "4 outside a group"; "Rules 0 to 256"
 abbrev pub ruleFaults : List ℕ → Open → List Check
-ruleFaults w o = check 10 (not (isGroup o)) ∷ check 2 (ltb 256 (rulesIn w + ruleCount (groupOf o) + 1)) ∷ []
+ruleFaults w o = check 10 (not (isGroup o)) ∷ check 2 (ltb Sizes.RULES (rulesIn w + ruleCount (groupOf o) + 1)) ∷ []
 
 -- "5 outside a rule"; "0 child, 1 descendant; 0 at the first"; "steps in a selector 0 to 8"
 abbrev pub stepFaults : Open → ℕ → List Check
 stepFaults o code =
     check 10 (not (inRule o))
     ∷ check 10 (ltb (cond (eqb (lastOf (groupOf o) 0) 0) 0 1) code)
-    ∷ check 2 (ltb 8 (lastOf (groupOf o) 0 + 1))
+    ∷ check 2 (ltb Sizes.STEPS (lastOf (groupOf o) 0 + 1))
     ∷ []
 
 -- "6 without a step"; "which .. 3 pseudo"; "required classes and required pseudos 0 to 8 each as given"; "required ids 0 to 8,192, .. as held"
@@ -68,17 +69,17 @@ abbrev pub requirementFaults : List ℕ → Open → ℕ → ℕ → List Check
 requirementFaults w o which id =
     check 10 (not (inStep o))
     ∷ check 10 (ltb 3 which)
-    ∷ check 2 (itemOver 8 which (lastRow (groupOf o)))
-    ∷ check 2 (ltb 8192 (idsIn w + idsGiven (withRequirement which id (groupOf o))))
+    ∷ check 2 (itemOver Sizes.STEP-IDS which (lastRow (groupOf o)))
+    ∷ check 2 (ltb Sizes.SHEET-IDS (idsIn w + idsGiven (withRequirement which id (groupOf o))))
     ∷ []
 
 -- "7 outside a direct style or rule"; an entry kind over 3; "entries in a style 0 to 32"; "In a whole sheet: .. entries 0 to 4,096"
 abbrev pub entryFaults : List ℕ → Open → ℕ → List Check
 entryFaults w o kind =
     check 10 (not (isDirect o || inRule o))
-    ∷ check 10 (ltb 3 kind)
-    ∷ check 2 (ltb 32 (lastEntries o + 1))
-    ∷ check 2 (ltb 4096 (allEntriesIn w + entriesGiven (groupOf o) + 1))
+    ∷ check 10 (ltb Sizes.ENTRY-KIND kind)
+    ∷ check 2 (ltb Sizes.STYLE-ENTRIES (lastEntries o + 1))
+    ∷ check 2 (ltb Sizes.SHEET-ENTRIES (allEntriesIn w + entriesGiven (groupOf o) + 1))
     ∷ []
 
 -- ---- one record after the first

@@ -54,19 +54,19 @@ formed properties kinds n e =
 pub record StyleAccepted (w : List ℕ) (origin : ℕ) (properties kinds numbers : List ℕ) (n : ℕ) : Type 0 where
   pub shape : sheetShape w ≡ true
   pub origin-fits : origin ≤ 7
-  pub styles : Layout.stylesIn w ≤ 63
+  pub styles : Layout.stylesIn w + 1 ≤ 64
   pub counted : Within properties kinds numbers n
   pub entries-sum : allEntriesIn w + n ≤ 4096
   pub form : Formed properties kinds n
   pub next : Layout.nextIn w ≤ 65535
 
 module _ (w properties kinds numbers : List ℕ) (n : ℕ) where
-  pub style-sized : firstOf (styleSizeChecks w properties kinds numbers n) ≡ 0 → (Layout.stylesIn w ≤ 63) × Within properties kinds numbers n × (allEntriesIn w + n ≤ 4096)
+  pub style-sized : firstOf (styleSizeChecks w properties kinds numbers n) ≡ 0 → (Layout.stylesIn w + 1 ≤ 64) × Within properties kinds numbers n × (allEntriesIn w + n ≤ 4096)
   style-sized e =
-      let (a, r) = first-clear 2 (ltb 63 (Layout.stylesIn w)) _ (omega arith) e in
+      let (a, r) = first-clear 2 (ltb 64 (Layout.stylesIn w + 1)) _ (omega arith) e in
       let (b, s) = first-clear 2 (entriesOver properties kinds numbers n) _ (omega arith) r in
       let (c, _) = first-clear 2 (ltb 4096 (allEntriesIn w + n)) [] (omega arith) s in
-      (ltb-false 63 (Layout.stylesIn w) a, within properties kinds numbers n _ refl b, ltb-false 4096 (allEntriesIn w + n) c)
+      (ltb-false 64 (Layout.stylesIn w + 1) a, within properties kinds numbers n _ refl b, ltb-false 4096 (allEntriesIn w + n) c)
 
   pub style-accepted : (origin : ℕ) → stylePushVerdict w origin properties kinds numbers n ≡ 0 → StyleAccepted w origin properties kinds numbers n
   unfolding stylePushVerdict

@@ -4,6 +4,7 @@ use mathlib.Core.List.{List, [], _∷_, _++_, map}
 use Prim.Native.Nat.{ℕ, _+_, _/_}
 use lib.ListN.{length}
 use lib.Dec.{ltb}
+use Rattle.theory.specs.Sizes
 use Rattle.theory.specs.Lists.{atMost, sumBelow}
 use Rattle.lent.specs.Refusals.{Check, check, firstOf, checksBelow}
 use Rattle.selector.specs.Rows.{selectorOf}
@@ -23,10 +24,10 @@ emptyVerdict w = firstOf (check 11 (ltb (length w) Layout.SHEET-WORDS) ∷ [])
 -- ---- every push of a source: 11, 6 for the origin; at the end 7, "a push would use a source index over 65,535"
 
 abbrev pub frontChecks : List ℕ → ℕ → List Check
-frontChecks w origin = check 11 (not (sheetShape w)) ∷ check 6 (ltb 7 origin) ∷ []
+frontChecks w origin = check 11 (not (sheetShape w)) ∷ check 6 (ltb Sizes.ORIGIN origin) ∷ []
 
 abbrev pub indexChecks : List ℕ → List Check
-indexChecks w = check 7 (ltb 65535 (Layout.nextIn w)) ∷ []
+indexChecks w = check 7 (ltb Sizes.SOURCE-INDEX (Layout.nextIn w)) ∷ []
 
 -- the entries held in the whole sheet
 abbrev pub allEntriesIn : List ℕ → ℕ
@@ -40,7 +41,7 @@ formChecks properties kinds n = check 6 (kindsOver kinds n) ∷ check 1 (propert
 
 abbrev pub styleSizeChecks : List ℕ → List ℕ → List ℕ → List ℕ → ℕ → List Check
 styleSizeChecks w properties kinds numbers n =
-    check 2 (ltb 63 (Layout.stylesIn w)) ∷ check 2 (entriesOver properties kinds numbers n) ∷ check 2 (ltb 4096 (allEntriesIn w + n)) ∷ []
+    check 2 (ltb Sizes.STYLES (Layout.stylesIn w + 1)) ∷ check 2 (entriesOver properties kinds numbers n) ∷ check 2 (ltb Sizes.SHEET-ENTRIES (allEntriesIn w + n)) ∷ []
 
 unfoldable pub stylePushVerdict : List ℕ → ℕ → List ℕ → List ℕ → List ℕ → ℕ → ℕ
 stylePushVerdict w origin properties kinds numbers n =
@@ -54,15 +55,15 @@ pushedStyle w origin properties kinds numbers n =
 -- ---- "Pushing a group 11, 6 for the origin, 2 for the number of rules, then each rule in turn 2 (sheet sums so far included), 3, 6, 1, then 7"
 
 unfoldable pub rulesOver : List ℕ → List ℕ → ℕ → Bool
-rulesOver w rules n = ltb 256 (Layout.rulesIn w + n) || ltb (length rules / 3) n
+rulesOver w rules n = ltb Sizes.RULES (Layout.rulesIn w + n) || ltb (length rules / 3) n
 
 -- one rule of n steps, m combinators and l entries, which begin these lists; before it there are so many ids and entries
 abbrev pub ruleSizeChecks : List ℕ → ℕ → List ℕ → ℕ → List ℕ → List ℕ → List ℕ → ℕ → ℕ → ℕ → List Check
 ruleSizeChecks steps n combinators m properties kinds numbers l ids entries =
     check 2 (selectorOver steps n combinators m)
     ∷ check 2 (entriesOver properties kinds numbers l)
-    ∷ check 2 (ltb 8192 (ids + idsHeld (selectorOf steps combinators n)))
-    ∷ check 2 (ltb 4096 (entries + l))
+    ∷ check 2 (ltb Sizes.SHEET-IDS (ids + idsHeld (selectorOf steps combinators n)))
+    ∷ check 2 (ltb Sizes.SHEET-ENTRIES (entries + l))
     ∷ []
 
 abbrev pub ruleFormChecks : ℕ → List ℕ → ℕ → List Check
@@ -95,10 +96,10 @@ pushedGroup w origin g n = lay [] (rulesGiven origin (Layout.nextIn w) g n) (Lay
 
 unfoldable pub sumsOver : List ℕ → List ℕ → Bool
 sumsOver w v =
-    ltb 256 (Layout.rulesIn w + Layout.rulesIn v)
-    || (ltb 64 (Layout.stylesIn w + Layout.stylesIn v)
-    || (ltb 8192 (Layout.idsIn w + Layout.idsIn v)
-    || ltb 4096 (allEntriesIn w + allEntriesIn v)))
+    ltb Sizes.RULES (Layout.rulesIn w + Layout.rulesIn v)
+    || (ltb Sizes.STYLES (Layout.stylesIn w + Layout.stylesIn v)
+    || (ltb Sizes.SHEET-IDS (Layout.idsIn w + Layout.idsIn v)
+    || ltb Sizes.SHEET-ENTRIES (allEntriesIn w + allEntriesIn v)))
 
 -- the source indexes of direct styles and of rules
 abbrev pub indexesOf : Sheet → List ℕ
@@ -112,7 +113,7 @@ abbrev pub shiftRule : ℕ → Rule → Rule
 shiftRule k r = record { origin = r .origin; source = k + r .source; order = r .order; selector = r .selector; entries = r .entries }
 
 unfoldable pub indexesOver : List ℕ → List ℕ → Bool
-indexesOver w v = not (atMost 65535 (map (λ x. Layout.nextIn w + x) (indexesOf (sheetOf v))))
+indexesOver w v = not (atMost Sizes.SOURCE-INDEX (map (λ x. Layout.nextIn w + x) (indexesOf (sheetOf v))))
 
 unfoldable pub cascadeVerdict : List ℕ → List ℕ → ℕ
 cascadeVerdict w v =

@@ -4,6 +4,7 @@ use mathlib.Core.List.{List, [], _∷_, _++_}
 use Prim.Native.Nat.{ℕ, zero, suc, _+_, _*_}
 use lib.ListN.{length, drop, replicate}
 use lib.Dec.{eqb}
+use Rattle.theory.specs.Sizes
 use Rattle.lent.specs.Refusals.{check, firstOf}
 use Rattle.sheet.specs.Layout.{SHEET-WORDS}
 use Rattle.sheet.specs.Laying.{emptied}
@@ -29,7 +30,7 @@ abbrev pub emptySheet : List ℕ
 emptySheet = emptied (replicate SHEET-WORDS 0)
 
 abbrev pub lentTable : ℕ → Table
-lentTable room = table (replicate 8 0) (replicate (STATE-WORDS * 512) 0) (replicate 4096 0) (replicate 4096 0) (replicate (TRANSITION-WORDS * room) 0)
+lentTable room = table (replicate 8 0) (replicate (STATE-WORDS * Sizes.STATES) 0) (replicate 4096 0) (replicate 4096 0) (replicate (TRANSITION-WORDS * room) 0)
 
 -- What a record does: it prints, and either ends the program or leads on
 pub data Outcome : Type 0 where

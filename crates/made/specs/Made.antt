@@ -3,13 +3,14 @@ use mathlib.Core.Path.{_≡_}
 use mathlib.Core.List.{List}
 use Prim.Native.Nat.{ℕ, _<_}
 use lib.ListN.{getD}
+use Rattle.theory.specs.Sizes
 use Rattle.sheet.specs.Laying.{emptied}
 use Rattle.given.specs.Given.{Group}
 use Rattle.given.specs.Pushing.{emptyVerdict, stylePushVerdict, pushedStyle, groupVerdict, pushedGroup, cascadeVerdict, pushedCascade}
 
 -- "property ids u16"
 abbrev pub Halves : List ℕ → Type 0
-Halves properties = (k : ℕ) → getD properties k 0 < 65536
+Halves properties = (k : ℕ) → getD properties k 0 < Sizes.PROPERTY-IDS
 
 -- The memory after accepted calls, of the calls' own definitions
 pub data Made : List ℕ → Type 0 where

@@ -12,6 +12,7 @@ use borrow.Author.Tests.{le-ltb, lt-ltb, eq-eqb, ne-eqb}
 use Rattle.lent.specs.Refusals.{firstOf}
 use Rattle.sheet.specs.Layout.{SHEET-WORDS}
 use Rattle.sheet.specs.Laying.{emptied}
+use Rattle.sheet.specs.Shape.{sheetShape}
 use Rattle.given.specs.Given.{Group}
 use Rattle.laid.proofs.Emptied.{shape-emptied}
 use Rattle.records.specs.declared.Record.{Record}
@@ -20,7 +21,7 @@ use Rattle.gather.specs.declared.Filled.{Filled}
 use Rattle.gather.specs.declared.Taken.{Taken}
 use Rattle.gather.specs.Opened.{nothing}
 use Rattle.gather.specs.Making.{makingVerdict, sheetAfter, openAfter}
-use Rattle.gather.specs.Memory.{openOf, Roomy, Takes}
+use Rattle.gather.specs.Memory.{openOf, Roomy, Sound, Takes}
 use Rattle.wording.specs.Lines.{refusedLine}
 use Rattle.house.specs.declared.Making.{Making}
 use Rattle.house.specs.House.{first, making, stops, leads, emptySheet, firstVerdict, makingOutcome, outcome}
@@ -55,10 +56,38 @@ module _ (m : Making) (w : List ℕ) (g : Group) where
     offset = refl;
   }
 
+-- an accepted one leads on, from the same place
+abbrev led : Making → ℕ → ℕ → ℕ → Filled → Making
+led m state ranking stamp f = record { state = state; ranking = ranking; stamp = stamp; verdict = m .verdict; offset = m .offset; at = m .at; filled = f }
+
+took-on : {m : Making} {w : List ℕ} {g : Group} {r : Record} {state ranking stamp : ℕ} {f : Filled} {w′ : List ℕ} {g′ : Group}
+    → (state ≡ 2 → ⊥)
+    → (state ≡ 0 → ⊥)
+    → ((room : ℕ) → outcome room (phaseOf m w g) (m .offset) r ≡ did room (led m state ranking stamp f) w′ g′)
+    → Stands (led m state ranking stamp f) w′ g′
+    → Took m w g r (led m state ranking stamp f) w′ g′
+took-on n z e s = record { done = record { does = e; stands = s; keeps = λ x. absurd (n x); quiet = λ _. refl; some = z }; at = refl; offset = refl }
+
+-- and in the making another may come
+stands-making : {m : Making} {w : List ℕ} {g : Group} → m .state ≡ 1 → Sound (m .filled) g → sheetShape w ≡ true → m .ranking ≤ 1 → Stands m w g
+stands-making e sound shape ranking = record {
+  before = λ l. record {
+    awaits = l;
+    zeros = λ z. absurd (omega (arith, e, z));
+    nothing = λ z. absurd (omega (arith, e, z));
+    sound = sound;
+    shape = shape;
+    ranking = ranking;
+  };
+  ready = λ x. absurd (omega (arith, e, x));
+  known = omega (arith, e);
+  room = sound .room;
+}
+
 -- ---- "1 sheet, first and once"
 
 abbrev begun : Making → Record → Making
-begun m r = record { state = 1; ranking = r .first; stamp = r .second; verdict = m .verdict; offset = m .offset; at = m .at; filled = m .filled }
+begun m r = led m 1 (r .first) (r .second) (m .filled)
 
 not-first : (r : Record) → (r .kind ≡ 1 → ⊥) → firstVerdict r ≡ 10
 unfolding firstVerdict firstOf
@@ -93,29 +122,11 @@ module _ (m : Making) (w : List ℕ) (g : Group) (b : Before m w g) (z : m .stat
   pub begin-taken : (w′ : List ℕ) → r .kind ≡ 1 → r .first ≤ 1 → w′ ≡ sets w 0 (replicate 7 0) → Took m w g r (begun m r) w′ g
   begin-taken w′ e h q =
       let s = emptied-is w′ q in
-      record {
-        done = record {
-          does = λ room. rw (phase-first m w g z, s) (begun-does room);
-          stands = record {
-            before = λ l. record {
-              awaits = omega arith;
-              zeros = λ x. absurd (omega arith);
-              nothing = λ x. absurd (omega arith);
-              sound = b .sound;
-              shape = rw s (shape-emptied (replicate SHEET-WORDS 0) (rw length-replicate (omega arith)));
-              ranking = h;
-            };
-            ready = λ x. absurd (omega arith);
-            known = omega arith;
-            room = b .sound .room;
-          };
-          keeps = λ x. absurd (omega arith);
-          quiet = λ _. refl;
-          some = λ x. absurd (omega arith);
-        };
-        at = refl;
-        offset = refl;
-      }
+      took-on
+      (λ x. omega arith)
+      (λ x. omega arith)
+      (λ room. rw (phase-first m w g z, s) (begun-does room))
+      (stands-making refl (b .sound) (rw s (shape-emptied (replicate SHEET-WORDS 0) (rw length-replicate (omega arith)))) h)
     where
       begun-does : (room : ℕ) → outcome room first (m .offset) r ≡ did room (begun m r) emptySheet g
       begun-does room = unfold outcome did phaseOf in rw (is-first r e h, open-nothing (m .filled) g (b .nothing z))
@@ -123,7 +134,7 @@ module _ (m : Making) (w : List ℕ) (g : Group) (b : Before m w g) (z : m .stat
 -- ---- a record after the first
 
 abbrev gone : Making → ℕ → Filled → Making
-gone m state f = record { state = state; ranking = m .ranking; stamp = m .stamp; verdict = m .verdict; offset = m .offset; at = m .at; filled = f }
+gone m state f = led m state (m .ranking) (m .stamp) f
 
 module _ (m : Making) (w : List ℕ) (g : Group) (b : Before m w g) (z : m .state ≡ 1) (r : Record) (t : Taken) (w′ : List ℕ) (g′ : Group)
     (k : Takes w (m .filled) g r t w′ g′) where
@@ -144,49 +155,26 @@ module _ (m : Making) (w : List ℕ) (g : Group) (b : Before m w g) (z : m .stat
     open-after = k .opens a
 
     go-end : r .kind ≡ 8 → Took m w g r (gone m 3 (t .filled)) w′ g′
-    go-end e = record {
-      done = record {
-        does = λ room.
-            rw (phase-making m w g z) (unfold outcome makingOutcome did in rw (
-              zero-verdict,
-              eq-eqb (r .kind) 8 e,
-              ← sheet-after,
-              build-never-refused w′ (m .ranking) room (k .shape) (b .ranking),
-            ));
-        stands = record { before = λ l. absurd (omega arith); ready = λ x. (k .shape, b .ranking); known = omega arith; room = k .sound .room };
-        keeps = λ x. absurd (omega arith);
-        quiet = λ _. refl;
-        some = λ x. absurd (omega arith);
-      };
-      at = refl;
-      offset = refl;
-    }
+    go-end e =
+        took-on
+        (λ x. omega arith)
+        (λ x. omega arith)
+        (λ room.
+        rw (phase-making m w g z) (unfold outcome makingOutcome did in rw (
+          zero-verdict,
+          eq-eqb (r .kind) 8 e,
+          ← sheet-after,
+          build-never-refused w′ (m .ranking) room (k .shape) (b .ranking),
+        )))
+        (record { before = λ l. absurd (omega arith); ready = λ x. (k .shape, b .ranking); known = omega arith; room = k .sound .room })
 
     go-on : (r .kind ≡ 8 → ⊥) → Took m w g r (gone m 1 (t .filled)) w′ g′
-    go-on n = record {
-      done = record {
-        does = λ room.
-            rw (phase-making m w g z) (unfold outcome makingOutcome did phaseOf in rw (zero-verdict, ne-eqb (r .kind) 8 n, ← sheet-after, ← open-after));
-        stands = record {
-          before = λ l. record {
-            awaits = omega arith;
-            zeros = λ x. absurd (omega arith);
-            nothing = λ x. absurd (omega arith);
-            sound = k .sound;
-            shape = k .shape;
-            ranking = b .ranking;
-          };
-          ready = λ x. absurd (omega arith);
-          known = omega arith;
-          room = k .sound .room;
-        };
-        keeps = λ x. absurd (omega arith);
-        quiet = λ _. refl;
-        some = λ x. absurd (omega arith);
-      };
-      at = refl;
-      offset = refl;
-    }
+    go-on n =
+        took-on
+        (λ x. omega arith)
+        (λ x. omega arith)
+        (λ room. rw (phase-making m w g z) (unfold outcome makingOutcome did phaseOf in rw (zero-verdict, ne-eqb (r .kind) 8 n, ← sheet-after, ← open-after)))
+        (stands-making refl (k .sound) (k .shape) (b .ranking))
 
     -- as the code says the state
     pub go-after : (s : ℕ) → s ≡ cond (eqb (r .kind) 8) 3 1 → Took m w g r (gone m s (t .filled)) w′ g′

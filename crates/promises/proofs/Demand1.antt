@@ -4,7 +4,7 @@
 -- proved of a function only if it ends. Here, of each call that can refuse, by its contract: its checks, in the order that 01 gives them; the first whose test holds gives
 -- the number, which is told alone; where none holds, and only there, the call is accepted; and what was lent to write is left as it was by a refusal.
 -- `Refusing checks told` says so of what the answer tells, `Guarding checks told before after` of that and of memory. There is always one number or none
--- (Ladders.antt, `decided`, `one-number`). Each test is defined in the specs/ of its crate, under its line of 01's table; w is a sheet's words, t a table's.
+-- (Ladders.antt, `decided`, `one-number`). Each test is defined in the specs/ of its crate, under its line of 01's table, and each size in theory's specs/Sizes; w is a sheet's words, t a table's.
 -- Demand1Rest.antt has the calls for which 01's "Order" has no line. Refusal 10 is of house records, which no call here takes: `walkOf` (house, specs/House) says when,
 -- and `pieces-print` (walked) that it is printed. The calls that tell a verdict (`admit`, `joining`, `matcher::states`) have the verdict itself for their contract.
 use mathlib.Core.Path.{_≡_, refl, _∙_}
@@ -15,6 +15,7 @@ use Prim.Native.Nat.{ℕ, suc, _+_, _<_}
 use lib.ListN.{length, getElem?}
 use lib.Dec.{ltb}
 use denote.Ref.{RefT}
+use Rattle.theory.specs.Sizes
 use Rattle.theory.specs.Lists.{sumBelow}
 use Rattle.lent.specs.Refusals.{Check, check, checksBelow, answered}
 use Rattle.lent.proofs.Refusals.{positive-append, positive-below}
@@ -73,7 +74,7 @@ pub enter-subject-refuses : (w : List ℕ) (t : Table) (number stamp : ℕ) (x :
     → Guarding
     (check 11 (broken w t)
     ∷ check 4 (notAState (t .head) number stamp)
-    ∷ check 2 (not (rowFits 16 (inputsRow x) 0))
+    ∷ check 2 (not (rowFits Sizes.SUBJECT-IDS (inputsRow x) 0))
     ∷ check 1 (not (tagsAscend (rowAt 16 (inputsRow x) 0)))
     ∷ check 5 (lacksRoom w t number (inputsRow x))
     ∷ [])
@@ -191,13 +192,13 @@ pub push-style-refuses : (w : List ℕ) (origin : ℕ) (properties kinds numbers
     → Push (stylePushVerdict w origin properties kinds numbers n) w pushed r after
     → Guarding
     (check 11 (not (sheetShape w))
-    ∷ check 6 (ltb 7 origin)
-    ∷ check 2 (ltb 63 (Layout.stylesIn w))
+    ∷ check 6 (ltb Sizes.ORIGIN origin)
+    ∷ check 2 (ltb Sizes.STYLES (Layout.stylesIn w + 1))
     ∷ check 2 (entriesOver properties kinds numbers n)
-    ∷ check 2 (ltb 4096 (allEntriesIn w + n))
+    ∷ check 2 (ltb Sizes.SHEET-ENTRIES (allEntriesIn w + n))
     ∷ check 6 (kindsOver kinds n)
     ∷ check 1 (propertiesOff properties n)
-    ∷ check 7 (ltb 65535 (Layout.nextIn w))
+    ∷ check 7 (ltb Sizes.SOURCE-INDEX (Layout.nextIn w))
     ∷ [])
     (pushingTold r) w after
 unfolding stylePushVerdict
@@ -207,15 +208,15 @@ push-style-refuses w origin properties kinds numbers n c = guarding refl _ (_, r
 
 module _ (w : List ℕ) (origin : ℕ) (g : Group) (n : ℕ) where
   abbrev pub beforeRules : List Check
-  beforeRules = check 11 (not (sheetShape w)) ∷ check 6 (ltb 7 origin) ∷ check 2 (rulesOver w (g .rules) n) ∷ []
+  beforeRules = check 11 (not (sheetShape w)) ∷ check 6 (ltb Sizes.ORIGIN origin) ∷ check 2 (rulesOver w (g .rules) n) ∷ []
 
   -- rule k: of 2, its selector, its entries, and the ids and entries of the whole sheet with the rules before it; of 6, combinators and entry kinds
   abbrev pub ruleInTurn : ℕ → List Check
   ruleInTurn k =
       check 2 (selectorOver (stepsFrom g k) (stepCount g k) (combinatorsFrom g k) (combinatorCount g k))
       ∷ check 2 (entriesOver (propertiesFrom g k) (kindsFrom g k) (numbersFrom g k) (entryCount g k))
-      ∷ check 2 (ltb 8192 (Layout.idsIn w + sumBelow (λ j. idsHeld (selectorGiven g j)) k + idsHeld (selectorOf (stepsFrom g k) (combinatorsFrom g k) (stepCount g k))))
-      ∷ check 2 (ltb 4096 (allEntriesIn w + sumBelow (entryCount g) k + entryCount g k))
+      ∷ check 2 (ltb Sizes.SHEET-IDS (Layout.idsIn w + sumBelow (λ j. idsHeld (selectorGiven g j)) k + idsHeld (selectorOf (stepsFrom g k) (combinatorsFrom g k) (stepCount g k))))
+      ∷ check 2 (ltb Sizes.SHEET-ENTRIES (allEntriesIn w + sumBelow (entryCount g) k + entryCount g k))
       ∷ check 3 (combinatorsOff (stepCount g k) (combinatorCount g k))
       ∷ check 6 (codesOver (combinatorsFrom g k) (combinatorCount g k))
       ∷ check 6 (kindsOver (kindsFrom g k) (entryCount g k))
@@ -223,7 +224,7 @@ module _ (w : List ℕ) (origin : ℕ) (g : Group) (n : ℕ) where
       ∷ []
 
   abbrev pub afterRules : List Check
-  afterRules = check 7 (ltb 65535 (Layout.nextIn w)) ∷ []
+  afterRules = check 7 (ltb Sizes.SOURCE-INDEX (Layout.nextIn w)) ∷ []
 
   abbrev pub ofGroup : List Check
   ofGroup = beforeRules ++ (checksBelow n ruleInTurn ++ afterRules)
@@ -256,6 +257,6 @@ push-bare-cascade w v s s′ no-styles no-rules c =
 -- ---- "Build 11 (sheet), 6, 5." It is lent three of the table's five pieces, and its contract says this whatever the other two are
 
 pub build-refuses : (w : List ℕ) (stamp ranking : ℕ) (t : Table) {r : Building} {t′ : Table} → Build w stamp ranking t r t′
-    → Guarding (check 11 (not (sheetShape w)) ∷ check 6 (ltb 1 ranking) ∷ check 5 (rootLacksRoom w (t .states) (t .cursors)) ∷ []) (buildingTold r) t t′
+    → Guarding (check 11 (not (sheetShape w)) ∷ check 6 (ltb Sizes.RANKING ranking) ∷ check 5 (rootLacksRoom w (t .states) (t .cursors)) ∷ []) (buildingTold r) t t′
 unfolding buildVerdict
 build-refuses w stamp ranking t c = guarding refl _ (_, refl) (c .answer) (c .memory)

@@ -7,6 +7,7 @@ use Prim.Native.Nat.{ℕ}
 use lib.ListN.{length, getElem?}
 use lib.Dec.{ltb, eqb}
 use denote.Ref.{RefT}
+use Rattle.theory.specs.Sizes
 use Rattle.theory.specs.Weight.{weightOf}
 use Rattle.lent.specs.Refusals.{Check, check, answered}
 use Rattle.selector.specs.Tags.{asSets, stepMatches}
@@ -86,7 +87,7 @@ module _ (w : List ℕ) where
 
 pub rule-weight-refuses : (w : List ℕ) (number ranking : ℕ) (r : Weighing)
     → weighingTold r ≡ answered (weightVerdict w number ranking) (weightTold (weightOf ranking (countsFor (ruleAt w number .selector))))
-    → Refusing (check 11 (not (sheetShape w)) ∷ check 9 (not (ltb number (Layout.rulesIn w))) ∷ check 6 (ltb 1 ranking) ∷ []) (weighingTold r)
+    → Refusing (check 11 (not (sheetShape w)) ∷ check 9 (not (ltb number (Layout.rulesIn w))) ∷ check 6 (ltb Sizes.RANKING ranking) ∷ []) (weighingTold r)
 unfolding weightVerdict
 rule-weight-refuses w number ranking r e = refusing refl (_, refl) e
 
@@ -101,8 +102,8 @@ specificity-refuses ranking steps n combinators c r e = refusing refl (_, refl) 
 
 pub step-matches-refuses : (s : SelectorStep) (x : SelectorInputs) (r : Matching) → matchingTold r ≡ stepMatching s x
     → Refusing
-    (check 2 (over 8 (s .«class_count») (s .«pseudo_count»))
-    ∷ check 2 (over 16 (x .«class_count») (x .«pseudo_count»))
+    (check 2 (over Sizes.STEP-IDS (s .«class_count») (s .«pseudo_count»))
+    ∷ check 2 (over Sizes.SUBJECT-IDS (x .«class_count») (x .«pseudo_count»))
     ∷ check 1 (not (tagsAscend (inputsTags x)))
     ∷ [])
     (matchingTold r)
@@ -111,13 +112,13 @@ step-matches-refuses s x r e = refusing refl (yes-no-accepts (stepMatches (asSet
 
 -- a step, its `specificity` and `level3_specificity`, 2;
 pub step-specificity-refuses : (ranking : ℕ) (s : SelectorStep) (r : Weighing) → weighingTold r ≡ stepWeighing ranking s
-    → Refusing (check 2 (over 8 (s .«class_count») (s .«pseudo_count»)) ∷ []) (weighingTold r)
+    → Refusing (check 2 (over Sizes.STEP-IDS (s .«class_count») (s .«pseudo_count»)) ∷ []) (weighingTold r)
 unfolding stepWeighing
 step-specificity-refuses ranking s r e = refusing refl (_, refl) e
 
 -- a subject, `SelectorInputsOwned::new` and `with_part`, 2
 pub owned-refuses : (t : TypeChoice) (p : PartChoice) (classes : List ClassId) (n : ℕ) (pseudos : List PseudoClassId) (m : ℕ) {r : SelectorInputsOwned}
-    → Owned t p classes n pseudos m r → Refusing (check 2 (over 16 n m) ∷ []) (verdictTold (r .verdict))
+    → Owned t p classes n pseudos m r → Refusing (check 2 (over Sizes.SUBJECT-IDS n m) ∷ []) (verdictTold (r .verdict))
 unfolding ownedVerdict
 owned-refuses t p classes n pseudos m c = refusing refl (_, refl) (c .verdict)
 

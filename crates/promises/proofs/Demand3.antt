@@ -8,6 +8,7 @@ use Prim.Native.Nat.{ℕ, _≤_, _<_}
 use lib.ListN.{length, getD, take, replicate}
 use lib.Seq.{take-append-seam}
 use denote.Ref.{RefT}
+use Rattle.theory.specs.Sizes
 use Rattle.theory.specs.Lists.{_∈_, Ascending}
 use Rattle.theory.specs.Paths.{FitsTail}
 use Rattle.theory.specs.States.{rule}
@@ -125,7 +126,7 @@ module _ {w : List ℕ} (made : Made w) {ranking : ℕ} {t : Table} {old oldStam
       rw (f, e) (take-append-seam (changedIn w t old new) _)
 
   -- `changed_properties` and, in both states, `winning_source_for_id`; a property id is a u16
-  pub changes-exactly : (p : ℕ) → p < 65536 → (a b : Winning)
+  pub changes-exactly : (p : ℕ) → p < Sizes.PROPERTY-IDS → (a b : Winning)
       → winningTold a ≡ answered (stateVerdict w t old oldStamp) (winnerTold w (winnerIn w t old p))
       → winningTold b ≡ answered (stateVerdict w t new newStamp) (winnerTold w (winnerIn w t new p))
       → (p ∈ take n after) ↔ (a ≢ b)

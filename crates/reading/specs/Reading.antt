@@ -6,6 +6,7 @@ use mathlib.Core.List.{List, [], _∷_}
 use Prim.Native.Nat.{ℕ, _+_}
 use lib.ListN.{length, drop}
 use lib.Dec.{ltb, eqb}
+use Rattle.theory.specs.Sizes
 use Rattle.theory.specs.Paths.{Comb, child, descendant, Part}
 use Rattle.lent.specs.Refusals.{told, check, firstOf, answered}
 use Rattle.lent.specs.Pool.{startOf}
@@ -82,7 +83,7 @@ ruleVerdict w r = firstOf (check 11 (not (sheetShape w)) ∷ check 9 (not (ltb r
 
 -- Weight of a rule: 11, 9, 6
 unfoldable pub weightVerdict : List ℕ → ℕ → ℕ → ℕ
-weightVerdict w r ranking = firstOf (check 11 (not (sheetShape w)) ∷ check 9 (not (ltb r (Layout.rulesIn w))) ∷ check 6 (ltb 1 ranking) ∷ [])
+weightVerdict w r ranking = firstOf (check 11 (not (sheetShape w)) ∷ check 9 (not (ltb r (Layout.rulesIn w))) ∷ check 6 (ltb Sizes.RANKING ranking) ∷ [])
 
 -- ---- what they answer
 

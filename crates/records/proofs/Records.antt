@@ -185,7 +185,7 @@ module _ (bytes : List ℕ) (w : isWhole bytes ≡ true) where
 pub whole-kind : (bytes : List ℕ) (kind : ℕ) → kind ≡ kindOf bytes → isWhole bytes ≡ true → kind ≤ 12
 whole-kind bytes kind e w = rw e (known-most (kindOf bytes) (whole-known bytes w))
 
-record-is : (bytes : List ℕ) (kind a b c first second third : ℕ)
+pub record-is : (bytes : List ℕ) (kind a b c first second third : ℕ)
     → kind ≡ kindOf bytes
     → a ≡ width kind 0
     → b ≡ width kind 1
@@ -204,20 +204,9 @@ narrow-in bytes small = record {
   winner = λ e. rw e (number-half bytes small 5);
 }
 
--- what is read: the record, and what is said of it
-pub read-is : (bytes : List ℕ)
-    → Bytes bytes
-    → (kind a b c first second third : ℕ)
-    → kind ≡ kindOf bytes
-    → a ≡ width kind 0
-    → b ≡ width kind 1
-    → c ≡ width kind 2
-    → first ≡ numberAt bytes 1 a
-    → second ≡ numberAt bytes (1 + a) b
-    → third ≡ numberAt bytes (1 + a + b) c
-    → let r : Record = record { kind = kind; first = first; second = second; third = third } in (r ≡ recordIn bytes) × Narrow r
-read-is bytes small kind a b c first second third k p q r x y z =
-    let e = record-is bytes kind a b c first second third k p q r x y z in (e, rw e (narrow-in bytes small))
+-- what is said of a record that was read
+pub read-narrow : (bytes : List ℕ) → Bytes bytes → (r : Record) → r ≡ recordIn bytes → Narrow r
+read-narrow bytes small r e = rw e (narrow-in bytes small)
 
 -- ---- bytes more after them
 

@@ -4,6 +4,7 @@ use mathlib.Core.List.{List, [], _∷_}
 use Prim.Native.Nat.{ℕ}
 use lib.ListN.{getD, replicate}
 use lib.Dec.{eqb, ltb}
+use Rattle.theory.specs.Sizes
 use Rattle.lent.specs.Refusals.{check, firstOf}
 use Rattle.typed.specs.declared.SelectorInputs.{SelectorInputs}
 use Rattle.typed.specs.Typed.{rowType, rowPart, classesFrom, pseudosFrom, ownedInputs, inputsRow}
@@ -44,7 +45,7 @@ printed verdict offset line = cond (eqb verdict 0) line (refusedLine verdict off
 
 -- "which .. 3 pseudo"; "a subject's classes and pseudos 0 to 16 each as given"
 unfoldable pub itemFault : List ℕ → ℕ → ℕ
-itemFault row which = firstOf (check 10 (ltb 3 which) ∷ check 2 (itemOver 16 which row) ∷ [])
+itemFault row which = firstOf (check 10 (ltb 3 which) ∷ check 2 (itemOver Sizes.SUBJECT-IDS which row) ∷ [])
 
 -- "an item refused is dropped"
 unfoldable pub withFit : List ℕ → ℕ → ℕ → List ℕ

@@ -4,6 +4,7 @@ use mathlib.Core.List.{List, [], _∷_}
 use Prim.Native.Nat.{ℕ, _+_, _-_, _*_, _/_}
 use lib.ListN.{length, getD}
 use lib.Dec.{ltb, eqb}
+use Rattle.theory.specs.Sizes
 use Rattle.theory.specs.Lists.{ascends}
 use Rattle.lent.specs.Refusals.{check, firstOf}
 use Rattle.lent.specs.All.{allBelow}
@@ -18,11 +19,11 @@ rowFits size words at = not (ltb size (getD words (at + 4) 0)) && not (ltb size 
 -- as given; combinators within the list lent
 unfoldable pub selectorOver : List ℕ → ℕ → List ℕ → ℕ → Bool
 selectorOver steps n combinators c =
-    ltb 8 n || (ltb (length steps / 22) n || (ltb (length combinators) c || not (allBelow n (λ k. rowFits 8 steps (22 * k)))))
+    ltb Sizes.STEPS n || (ltb (length steps / 22) n || (ltb (length combinators) c || not (allBelow n (λ k. rowFits Sizes.STEP-IDS steps (22 * k)))))
 
 -- at most 32 places, in whole rows, each with at most 16 classes and 16 pseudos as given
 unfoldable pub pathOver : List ℕ → ℕ → Bool
-pathOver path m = ltb 32 m || (ltb (length path / 38) m || not (allBelow m (λ i. rowFits 16 path (38 * i))))
+pathOver path m = ltb Sizes.PATH m || (ltb (length path / 38) m || not (allBelow m (λ i. rowFits Sizes.SUBJECT-IDS path (38 * i))))
 
 -- "combinators are not one fewer than steps (none for no steps)"
 abbrev pub combinatorsOff : ℕ → ℕ → Bool
@@ -30,7 +31,7 @@ combinatorsOff n c = not (eqb c (n - 1))
 
 -- "a combinator code over 1"
 unfoldable pub codesOver : List ℕ → ℕ → Bool
-codesOver combinators c = not (allBelow c (λ j. not (ltb 1 (getD combinators j 0))))
+codesOver combinators c = not (allBelow c (λ j. not (ltb Sizes.COMBINATOR (getD combinators j 0))))
 
 abbrev pub tagsAscend : Tags → Bool
 tagsAscend t = ascends (t .classes) && ascends (t .pseudos)

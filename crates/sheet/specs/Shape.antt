@@ -1,9 +1,10 @@
 -- The shape of a sheet: 01's row 11. Assumes nothing.
 use mathlib.Core.Bool.{Bool, true, _&&_, cond}
 use mathlib.Core.List.{List}
-use Prim.Native.Nat.{ℕ, _+_, _-_}
+use Prim.Native.Nat.{ℕ, _+_, _-_, _*_}
 use lib.ListN.{length, getD, drop}
 use lib.Dec.{leb, ltb, eqb}
+use Rattle.theory.specs.Sizes
 use Rattle.theory.specs.Lists.{ascends, atMost, sumBelow}
 use Rattle.lent.specs.All.{allBelow}
 use Rattle.lent.specs.Pool.{endsIn, startOf, listAt}
@@ -17,31 +18,31 @@ roomEnough w = leb Layout.SHEET-WORDS (length w)
 
 -- "counts past the room or the sizes": 256 rules,
 unfoldable pub rulesFit : List ℕ → Bool
-rulesFit w = leb (Layout.rulesIn w) 256
+rulesFit w = leb (Layout.rulesIn w) Sizes.RULES
 
 -- 8 steps each,
 unfoldable pub stepsFit : List ℕ → Bool
-stepsFit w = leb (Layout.stepsIn w) 2048
+stepsFit w = leb (Layout.stepsIn w) (Sizes.RULES * Sizes.STEPS)
 
 -- 8,192 ids,
 unfoldable pub idsFit : List ℕ → Bool
-idsFit w = leb (Layout.idsIn w) 8192
+idsFit w = leb (Layout.idsIn w) Sizes.SHEET-IDS
 
 -- the next source index at most 65,536,
 unfoldable pub nextFits : List ℕ → Bool
-nextFits w = leb (Layout.nextIn w) 65536
+nextFits w = leb (Layout.nextIn w) Sizes.NEXT-INDEX
 
 -- 64 direct styles,
 unfoldable pub stylesFit : List ℕ → Bool
-stylesFit w = leb (Layout.stylesIn w) 64
+stylesFit w = leb (Layout.stylesIn w) Sizes.STYLES
 
 -- of 32 entries each,
 unfoldable pub styleEntriesFit : List ℕ → Bool
-styleEntriesFit w = leb (Layout.styleEntriesIn w) 2048
+styleEntriesFit w = leb (Layout.styleEntriesIn w) (Sizes.STYLES * Sizes.STYLE-ENTRIES)
 
 -- and 4,096 entries in the whole sheet
 unfoldable pub entriesFit : List ℕ → Bool
-entriesFit w = leb (Layout.entriesIn w + Layout.styleEntriesIn w) 4096
+entriesFit w = leb (Layout.entriesIn w + Layout.styleEntriesIn w) Sizes.SHEET-ENTRIES
 
 unfoldable pub ruleCountsFit : List ℕ → Bool
 ruleCountsFit w = rulesFit w && (stepsFit w && (idsFit w && nextFits w))
@@ -62,10 +63,10 @@ listFits ends size k = endToEnd ends k && notLonger ends size k
 
 -- "a code out of range": an origin rank over 7; and a source index over 65,535
 unfoldable pub originFits : List ℕ → ℕ → ℕ → ℕ → Bool
-originFits w column stride k = leb (endsIn w column stride k) 7
+originFits w column stride k = leb (endsIn w column stride k) Sizes.ORIGIN
 
 unfoldable pub sourceFits : List ℕ → ℕ → ℕ → ℕ → Bool
-sourceFits w column stride k = leb (endsIn w column stride k) 65535
+sourceFits w column stride k = leb (endsIn w column stride k) Sizes.SOURCE-INDEX
 
 -- "a list not strictly ascending": the property ids of list k
 unfoldable pub propertiesAscend : List ℕ → ℕ → (ℕ → ℕ) → ℕ → Bool
@@ -79,8 +80,8 @@ firstUntied w r =
 
 unfoldable pub ruleListsFit : List ℕ → ℕ → Bool
 ruleListsFit w r =
-    listFits (ruleStepEnds w) 8 r
-    && (listFits (ruleEntryEnds w) 32 r
+    listFits (ruleStepEnds w) Sizes.STEPS r
+    && (listFits (ruleEntryEnds w) Sizes.STYLE-ENTRIES r
     && (firstUntied w r
     && propertiesAscend w Layout.ENTRY (ruleEntryEnds w) r))
 
@@ -94,7 +95,7 @@ unfoldable pub styleFine : List ℕ → ℕ → Bool
 styleFine w d =
     originFits w Layout.STYLE-ORIGIN Layout.STYLE-WORDS d
     && (sourceFits w Layout.STYLE-SOURCE Layout.STYLE-WORDS d
-    && (listFits (styleEntryEnds w) 32 d
+    && (listFits (styleEntryEnds w) Sizes.STYLE-ENTRIES d
     && propertiesAscend w Layout.STYLE-ENTRY (styleEntryEnds w) d))
 
 -- of step s: a flag is 0 or 1;
@@ -106,11 +107,11 @@ partFlagFits w s = leb (getD w (Layout.stepPlace s + 2) 0) 1
 
 -- at most 8 classes
 unfoldable pub classesFit : List ℕ → ℕ → Bool
-classesFit w s = leb (getD w (Layout.stepPlace s + 4) 0) 8
+classesFit w s = leb (getD w (Layout.stepPlace s + 4) 0) Sizes.STEP-IDS
 
 -- and 8 pseudos;
 unfoldable pub pseudosFit : List ℕ → ℕ → Bool
-pseudosFit w s = leb (getD w (Layout.stepPlace s + 5) 0) 8
+pseudosFit w s = leb (getD w (Layout.stepPlace s + 5) 0) Sizes.STEP-IDS
 
 -- both ascending;
 unfoldable pub classesAscend : List ℕ → ℕ → Bool
@@ -121,7 +122,7 @@ pseudosAscend w s = ascends (rowAt 8 w (Layout.stepPlace s) .pseudos)
 
 -- a combinator code at most 1
 unfoldable pub combinatorFits : List ℕ → ℕ → Bool
-combinatorFits w s = leb (endsIn w Layout.STEP-COMBINATOR Layout.STEP-WORDS s) 1
+combinatorFits w s = leb (endsIn w Layout.STEP-COMBINATOR Layout.STEP-WORDS s) Sizes.COMBINATOR
 
 unfoldable pub stepFine : List ℕ → ℕ → Bool
 stepFine w s =
@@ -139,7 +140,7 @@ propertiesFit w base n = atMost 65535 (wordsFrom w base n)
 
 -- kinds at most 3
 unfoldable pub kindsFit : List ℕ → ℕ → ℕ → ℕ → Bool
-kindsFit w base room n = atMost 3 (wordsFrom w (base + room) n)
+kindsFit w base room n = atMost Sizes.ENTRY-KIND (wordsFrom w (base + room) n)
 
 unfoldable pub poolFits : List ℕ → ℕ → ℕ → ℕ → Bool
 poolFits w base room n = propertiesFit w base n && kindsFit w base room n

@@ -5,6 +5,7 @@ use mathlib.Core.List.{List, [], _∷_}
 use Prim.Native.Nat.{ℕ, _+_}
 use lib.ListN.{getD, set}
 use lib.Dec.{ltb}
+use Rattle.theory.specs.Sizes
 use Rattle.theory.specs.Weight.{weightOf}
 use Rattle.lent.specs.Refusals.{check, firstOf, answered}
 use Rattle.selector.specs.Tags.{Tags, asSets, stepMatches}
@@ -79,7 +80,7 @@ stepFrom row = stepWith (rowType row) (rowPart row) row
 -- Matching a step: 2 (step, then subject), 1
 unfoldable pub stepVerdict : SelectorStep → SelectorInputs → ℕ
 stepVerdict s x =
-    firstOf (check 2 (over 8 (s .«class_count») (s .«pseudo_count»)) ∷ check 2 (over 16 (x .«class_count») (x .«pseudo_count»)) ∷ check 1 (not (tagsAscend (inputsTags x))) ∷ [])
+    firstOf (check 2 (over Sizes.STEP-IDS (s .«class_count») (s .«pseudo_count»)) ∷ check 2 (over Sizes.SUBJECT-IDS (x .«class_count») (x .«pseudo_count»)) ∷ check 1 (not (tagsAscend (inputsTags x))) ∷ [])
 
 -- "A step's required ids may come in any order and repeated; they are sorted and made unique"
 unfoldable pub stepMatching : SelectorStep → SelectorInputs → List ℕ
@@ -88,4 +89,4 @@ stepMatching s x = answered (stepVerdict s x) (matchingTold (yesNo (stepMatches 
 -- Weighing a step: 2
 unfoldable pub stepWeighing : ℕ → SelectorStep → List ℕ
 stepWeighing ranking s =
-    answered (firstOf (check 2 (over 8 (s .«class_count») (s .«pseudo_count»)) ∷ [])) (weightTold (weightOf ranking (countsOf (asSets (stepTags s)) ∷ [])))
+    answered (firstOf (check 2 (over Sizes.STEP-IDS (s .«class_count») (s .«pseudo_count»)) ∷ [])) (weightTold (weightOf ranking (countsOf (asSets (stepTags s)) ∷ [])))

@@ -6,6 +6,7 @@ use Prim.Native.Nat.{ℕ, zero, suc, _+_, _-_, _*_}
 use lib.ListN.{length, set}
 use lib.Seq.{sets}
 use lib.Dec.{leb, ltb, eqb}
+use Rattle.theory.specs.Sizes
 use Rattle.theory.specs.States.{State, starts, enter}
 use Rattle.lent.specs.Pool.{addressOf}
 use Rattle.selector.specs.Tags.{Tags, stepMatches}
@@ -86,7 +87,7 @@ fits room used more = leb (used + more) room && ltb (used + more) 4294967296
 -- "a state place (none counts past 512), cursor room or matched room"
 unfoldable pub roomFor : List ℕ → ℕ → ℕ → ℕ → State → Bool
 roomFor head states cursors matched s =
-    ltb (Tables.statesIn head) 512
+    ltb (Tables.statesIn head) Sizes.STATES
     && (leb (Tables.STATE-WORDS * (Tables.statesIn head + 1)) states
     && (fits cursors (Tables.cursorsIn head) (length (s .cursors))
     && fits matched (Tables.matchedIn head) (length (s .matched))))

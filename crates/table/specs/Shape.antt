@@ -4,6 +4,7 @@ use mathlib.Core.List.{List, []}
 use Prim.Native.Nat.{ℕ, _+_, _*_, _/_, _%_}
 use lib.ListN.{length, getD}
 use lib.Dec.{leb, ltb}
+use Rattle.theory.specs.Sizes
 use Rattle.theory.specs.Lists.{ascends, compare}
 use Rattle.theory.specs.States.{rule, starts}
 use Rattle.theory.specs.Cascade.{isZero}
@@ -21,7 +22,7 @@ rootThere head = leb 1 (Tables.statesIn head)
 
 -- "States (at most 512)
 unfoldable pub statesFit : List ℕ → Bool
-statesFit head = leb (Tables.statesIn head) 512
+statesFit head = leb (Tables.statesIn head) Sizes.STATES
 
 -- .., cursors, matched numbers and cached transitions have the room that was lent."
 unfoldable pub statesHeld : List ℕ → List ℕ → Bool
@@ -38,15 +39,15 @@ transitionsHeld head transitions = leb (Tables.TRANSITION-WORDS * Tables.transit
 
 -- "a subject's classes and pseudos 0 to 16 each"
 unfoldable pub classesFit : List ℕ → ℕ → Bool
-classesFit transitions k = leb (getD transitions (Tables.subjectPlace k + 4) 0) 16
+classesFit transitions k = leb (getD transitions (Tables.subjectPlace k + 4) 0) Sizes.SUBJECT-IDS
 
 unfoldable pub pseudosFit : List ℕ → ℕ → Bool
-pseudosFit transitions k = leb (getD transitions (Tables.subjectPlace k + 5) 0) 16
+pseudosFit transitions k = leb (getD transitions (Tables.subjectPlace k + 5) 0) Sizes.SUBJECT-IDS
 
 -- ---- "a code out of range": the ranking, and flags other than 0 and 1
 
 unfoldable pub rankingFits : List ℕ → Bool
-rankingFits head = leb (Tables.rankingIn head) 1
+rankingFits head = leb (Tables.rankingIn head) Sizes.RANKING
 
 unfoldable pub typeFlagFits : List ℕ → ℕ → Bool
 typeFlagFits transitions k = leb (getD transitions (Tables.subjectPlace k) 0) 1

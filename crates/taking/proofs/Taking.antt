@@ -12,8 +12,8 @@ use Rattle.given.specs.Given.{Group}
 use Rattle.records.specs.declared.Record.{Record}
 use Rattle.gather.specs.declared.Filled.{Filled}
 use Rattle.gather.specs.declared.Taken.{Taken}
-use Rattle.gather.specs.Opened.{nothing, direct, group, none, withRule, withStep, withRequirement, withEntry}
-use Rattle.gather.specs.Making.{directFaults, groupFaults, ruleFaults, stepFaults, requirementFaults, entryFaults, inGroup, addedFault, addedTo, makingVerdict, sheetAfter, openAfter}
+use Rattle.gather.specs.Opened.{Open, nothing, direct, group, none, withRule, withStep, withRequirement, withEntry}
+use Rattle.gather.specs.Making.{directFaults, groupFaults, ruleFaults, stepFaults, requirementFaults, entryFaults, closes, closingFault, inGroup, addedFault, addedTo, makingVerdict, sheetAfter, openAfter}
 use Rattle.gather.specs.Memory.{openOf, Sound, Adds, Closes, Takes}
 use Rattle.gather.proofs.Opening.{adds-refused}
 
@@ -52,38 +52,30 @@ adds-misplaced w f m item r s a b c d e =
 -- ---- any kind
 
 module _ (w : List ℕ) (f : Filled) (m : Group) (item : Record) (r : Taken) (x : List ℕ) where
-  pub takes-direct : item .kind ≡ 2 → Closes (firstOf (directFaults w (openOf f m) (item .first))) w f m (direct (item .first) none) r x → Takes w f m item r x m
-  unfolding makingVerdict sheetAfter openAfter
-  takes-direct k c = record {
-    answer = c .answer ∙ rw k;
-    sheet = c .sheet ∙ rw k;
-    opens = λ z. c .opens z ∙ rw k;
+  -- of a kind that closes: its own fault, and what it opens
+  takes-closing : {fault : ℕ} {after : Open} → closes item ≡ true → fault ≡ closingFault w (openOf f m) item → after ≡ openAfter (openOf f m) item
+      → Closes fault w f m after r x → Takes w f m item r x m
+  unfolding makingVerdict sheetAfter
+  takes-closing k e o c = record {
+    answer = c .answer ∙ rw (k, e);
+    sheet = c .sheet ∙ rw (k, e);
+    opens = λ z. c .opens z ∙ o;
     keeps = λ n. (c .keeps n, refl);
     sound = c .sound;
     shape = c .shape;
   }
+
+  pub takes-direct : item .kind ≡ 2 → Closes (firstOf (directFaults w (openOf f m) (item .first))) w f m (direct (item .first) none) r x → Takes w f m item r x m
+  unfolding openAfter
+  takes-direct k = takes-closing (rw k) (rw k) (rw k)
 
   pub takes-group : item .kind ≡ 3 → Closes (firstOf (groupFaults (item .first))) w f m (group (item .first) none) r x → Takes w f m item r x m
-  unfolding makingVerdict sheetAfter openAfter
-  takes-group k c = record {
-    answer = c .answer ∙ rw k;
-    sheet = c .sheet ∙ rw k;
-    opens = λ z. c .opens z ∙ rw k;
-    keeps = λ n. (c .keeps n, refl);
-    sound = c .sound;
-    shape = c .shape;
-  }
+  unfolding openAfter
+  takes-group k = takes-closing (rw k) (rw k) (rw k)
 
   pub takes-end : item .kind ≡ 8 → Closes 0 w f m nothing r x → Takes w f m item r x m
-  unfolding makingVerdict sheetAfter openAfter
-  takes-end k c = record {
-    answer = c .answer ∙ rw k;
-    sheet = c .sheet ∙ rw k;
-    opens = λ z. c .opens z ∙ rw k;
-    keeps = λ n. (c .keeps n, refl);
-    sound = c .sound;
-    shape = c .shape;
-  }
+  unfolding openAfter
+  takes-end k = takes-closing (rw k) (rw k) (rw k)
 
 cond-same : {A : Type 0} (b : Bool) (a : A) → a ≡ cond b a a
 cond-same true a = refl

@@ -8,7 +8,8 @@ use Prim.Native.Nat.{ℕ, _<_}
 use lib.Dec.{T}
 use Rattle.theory.specs.Lists.{_∈_, Ascending, member}
 use native.Mathlib.Omega.{arith}
-use Rattle.theory.specs.Cascade.{properties, Key, winner, winningKey, sameKey, changed, mend}
+use Rattle.theory.specs.Sizes
+use Rattle.theory.specs.Cascade.{Key, winner, winningKey, sameKey, changed, mend}
 use Rattle.theory.proofs.Lists.{ascending-ext, select-in, select-ascending, member-is}
 use Rattle.theory.proofs.Keys.{keys-refl, keys-zero, zero-is}
 use Rattle.theory.proofs.Winners.{Told, winner-in, winning-key-unique}
@@ -45,7 +46,7 @@ module _ {Source : Type 0} (key : Source → ℕ → Key) (holds : Source → �
   pub changed-iff : (old new : List Source) (p : ℕ) → (p ∈ changed key holds old new) ↔ ((p < 65536) × (winningKey key holds old p ≢ winningKey key holds new p))
   unfolding changed
   changed-iff old new p =
-      let i = select-in (λ q. not (sameKey (winningKey key holds old q) (winningKey key holds new q))) properties p in
+      let i = select-in (λ q. not (sameKey (winningKey key holds old q) (winningKey key holds new q))) Sizes.PROPERTY-IDS p in
       let d = differ-is (winningKey key holds old p) (winningKey key holds new p) in
       (λ h. (omega (arith, i .0 h .0), d .0 (i .0 h .1)), λ h. i .1 (omega (arith, h .0), d .1 (h .1)))
 

@@ -8,6 +8,7 @@ use Prim.Native.Nat.{ℕ, zero, suc, _%_, _<_}
 use lib.ListN.{getElem?}
 use lib.Dec.{T, eqb}
 use lib.IntN.{ℤ, pos, negsuc}
+use Rattle.theory.specs.Sizes
 use Rattle.theory.specs.Lists.{compare, select, member}
 use Rattle.theory.specs.Weight.{Weight, weightNumbers, noWeight}
 
@@ -61,10 +62,6 @@ module _ {Source : Type 0} (key : Source → ℕ → Key) (holds : Source → �
   abbrev pub winningKey : List Source → ℕ → Option Key
   winningKey sources p = Option·map (λ s. key s p) (winner sources p)
 
--- "property ids u16"
-abbrev pub properties : ℕ
-properties = 65536
-
 -- "presence included"
 abbrev pub sameKey : Option Key → Option Key → Bool
 sameKey none none = true
@@ -75,7 +72,7 @@ sameKey (some a) (some b) = isZero (compareKeys a b)
 module _ {Source : Type 0} (key : Source → ℕ → Key) (holds : Source → ℕ → Bool) where
   -- "Changed properties, ascending: those whose winning key differs, presence included."
   unfoldable pub changed : List Source → List Source → List ℕ
-  changed old new = select (λ p. not (sameKey (winningKey key holds old p) (winningKey key holds new p))) properties
+  changed old new = select (λ p. not (sameKey (winningKey key holds old p) (winningKey key holds new p))) Sizes.PROPERTY-IDS
 
 -- The new answers at the properties listed, the old ones elsewhere
 unfoldable pub mend : {A : Type 0} → List ℕ → (ℕ → A) → (ℕ → A) → ℕ → A

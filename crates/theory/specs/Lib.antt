@@ -1,3 +1,4 @@
+pub mod Sizes
 pub mod Lists
 pub mod Paths
 pub mod Level3

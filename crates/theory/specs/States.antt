@@ -6,6 +6,7 @@ use mathlib.Core.List.{List, [], _∷_, _++_, foldl, flatMap}
 use Prim.Native.Nat.{ℕ, suc, _+_, _*_, _/_, _%_, _≤_}
 use lib.ListN.{length, getElem?, getD}
 use lib.Dec.{ltb, eqb}
+use Rattle.theory.specs.Sizes
 use Rattle.theory.specs.Lists.{insert, sort, only}
 use Rattle.theory.specs.Paths.{Comb, child, descendant, Part, Selector}
 
@@ -17,9 +18,9 @@ Sheet Step = List (Selector Step)
 abbrev pub rule : {Step : Type 0} → Sheet Step → ℕ → Selector Step
 rule sheet r = getD sheet r []
 
--- 01, "Sizes": steps in a selector 0 to 8
+-- No selector has more steps than its size
 abbrev pub Small : {Step : Type 0} → Sheet Step → Type 0
-Small sheet = (r : ℕ) → length (rule sheet r) ≤ 8
+Small sheet = (r : ℕ) → length (rule sheet r) ≤ Sizes.STEPS
 
 -- The cursor at step i of rule r, as one number
 abbrev pub cursor : ℕ → ℕ → ℕ

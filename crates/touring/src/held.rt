@@ -11,8 +11,10 @@ ghost use mathlib.Core.Path.{_≡_};
 ghost use mathlib.Core.Bool.{true};
 ghost use Prim.Native.Nat.{_≤_};
 ghost use lib.ListN.{length};
+ghost use lib.Seq.{sets};
 ghost use Rattle.sheet.specs.Shape.{sheetShape};
 ghost use Rattle.table.specs.Tables.{table};
+ghost use Rattle.wording.specs.Lines.{refusedLine};
 ghost use Rattle.replies.specs.Memory.{Ready};
 
 // How many bytes are at hand, the offset of the next record, and whether the walk is over.
@@ -22,8 +24,10 @@ struct Walking {
     over: bool,
 }
 
+// The line is laid at the front of the buffer, and written out.
 pub fn say_refused(out: &mut [u8], verdict: u32, offset: u64)
     requires { ⌜ length (now out) ≡ 131072 ⌝ }
+    ensures { λ _. ⌜ now (out .exit) ≡ sets (now (out .entry)) 0 (refusedLine verdict offset) ⌝ }
 {
     let used = refused(out, 0, verdict, offset);
     send(out, used, 0);

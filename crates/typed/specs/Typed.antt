@@ -7,6 +7,7 @@ use mathlib.Core.List.{List, [], _∷_, _++_}
 use Prim.Native.Nat.{ℕ}
 use lib.ListN.{length, getD, replicate}
 use lib.Dec.{ltb, eqb}
+use Rattle.theory.specs.Sizes
 use Rattle.theory.specs.Lists.{sort, spread}
 use Rattle.lent.specs.Refusals.{told, check, firstOf, answered}
 use Rattle.typed.specs.declared.ClassId.{ClassId}
@@ -131,7 +132,7 @@ over size n m = ltb size n || ltb size m
 
 -- An owned subject: 2
 unfoldable pub ownedVerdict : ℕ → ℕ → ℕ
-ownedVerdict n m = firstOf (check 2 (over 16 n m) ∷ [])
+ownedVerdict n m = firstOf (check 2 (over Sizes.SUBJECT-IDS n m) ∷ [])
 
 -- The answer as numbers: 0, or a refusal's own number
 abbrev pub verdictTold : Verdict → List ℕ

@@ -1,6 +1,6 @@
 -- `records::held::record_in` meets its contract. Assumes nothing.
 use denote.Ref.{now}
-use Rattle.records.proofs.Records.{whole-kind, read-is}
+use Rattle.records.proofs.Records.{whole-kind, record-is, read-narrow}
 use borrow.Author.Needs.{needs}
 use Rattle.records.proofs.held.record_in.Statement.{statement}
 use Rattle.records.proofs.held.record_in.Tie as tie
@@ -37,9 +37,10 @@ number-requires-3 c κs = search needs
 
 returns : tie.Need-returns
 returns c =
-    read-is
-    (now (c .before .before .before .before .before .before .before .before .args .bytes))
-    (λ i. c .before .before .before .before .before .before .before .shared-slice-known .given i .fits)
+    let p = c .before .before .before .before .before .before .before in
+    let e =
+    record-is
+    (now (p .before .args .bytes))
     _
     _
     _
@@ -53,7 +54,8 @@ returns c =
     (c .before .before .before .width3 .ensures .0)
     (c .before .before .number .ensures)
     (c .before .number2 .ensures)
-    (c .number3 .ensures)
+    (c .number3 .ensures) in
+    (e, read-narrow (now (p .before .args .bytes)) (λ i. p .shared-slice-known .given i .fits) _ e)
 
 pub record-in-spec : {M : Type 1} → statement M
 record-in-spec =
