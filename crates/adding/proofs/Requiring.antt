@@ -10,7 +10,7 @@ use lib.ListN.{length, getD, set, take, drop, replicate, length-set, length-drop
 use lib.Seq.{sets, sets-eq, length-sets, length-take-le, take-all, take-take, take-set-lt, drop-at, getD-set-same, getD-set-other}
 use lib.Dec.{ltb, eqb}
 use borrow.Author.Tests.{le-ltb, lt-ltb, eq-eqb, ne-eqb, ltb-true}
-use Rattle.theory.specs.Weight.{total}
+use Rattle.theory.specs.Lists.{total}
 use Rattle.theory.proofs.Lists.{and-right}
 use Rattle.lent.proofs.Placing.{sets-after}
 use Rattle.selector.specs.Tags.{asSets}

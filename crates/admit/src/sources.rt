@@ -306,7 +306,7 @@ pub(crate) fn group_fault(
     index_verdict(sheet)
 }
 
-// "Pushing a group 11, 6 for the origin, 2 for the number of rules, then each rule in turn 2 (sheet sums so far included), 3, 6, 1, then 7."
+// "Pushing a group 11, 6 for the origin, 2 for the number of rules, then each rule in turn 2 (sheet sums so far included), 3, 6, 1, then 7".
 pub fn group_verdict(
     sheet: &[u32],
     origin: u32,

@@ -11,7 +11,7 @@ use lib.ListN.{length, getD, set, take, drop, length-append, length-drop, length
 use lib.Seq.{length-take-le, take-suc, take-suc-set, drop-set-lt, drop-drop}
 use lib.Dec.{ltb, eqb}
 use borrow.Author.Tests.{lt-ltb, eq-eqb, ltb-true, eqb-true}
-use Rattle.theory.specs.Lists.{_∈_, Ascending, insert, sort, only}
+use Rattle.theory.specs.Lists.{_∈_, Ascending, inserted, sort, only}
 use Rattle.theory.proofs.Lists.{and-left, and-right, append-in, only-in, ascending-ext, insert-skip, sort-in, sort-ascending, sort-snoc, sort-length}
 use Rattle.advance.specs.Collecting.{Free, Put}
 
@@ -49,8 +49,8 @@ module _ (l : List ℕ) (a : ℕ) where
         λ j. elim (append-in l (a ∷ []) c .0 (sort-in (l ++ a ∷ []) c .0 j)) [ inl k ↦ k | inr k ↦ rw (List·Memᴰ·eq-of-singleton k) i ],
       ))
 
-insert-end : (a : ℕ) (l : List ℕ) → ((k : ℕ) → k ∈ l → k < a) → insert a l ≡ l ++ a ∷ []
-insert-end a [] h = unfold insert in refl
+insert-end : (a : ℕ) (l : List ℕ) → ((k : ℕ) → k ∈ l → k < a) → inserted a l ≡ l ++ a ∷ []
+insert-end a [] h = unfold inserted in refl
 insert-end a (b ∷ l) h = insert-skip a b l (h b (List·Memᴰ·head refl)) ∙ ap (λ r. b ∷ r) (insert-end a l (λ k i. h k (List·Memᴰ·tail i)))
 
 joined-end : (l : List ℕ) (a : ℕ) → Ascending l → ((k : ℕ) → k ∈ l → k < a) → l ++ a ∷ [] ≡ sort (l ++ a ∷ [])

@@ -1,15 +1,14 @@
 // Nothing is required of the table: along whatever chain its words say.
 use idset::compare;
-use lent::held::part;
 use lent::lists::cell;
 use lent::words::wide;
 use lent::words::word;
+use selector::held::ids;
 use table::layout;
 ghost use mathlib.Core.Path.{_≡_};
 ghost use mathlib.Core.Bool.{_&&_};
 ghost use Prim.Native.Nat.{_<_};
-ghost use lib.ListN.{getD};
-ghost use Rattle.selector.specs.Rows.{rowAt, tagOf, wordsFrom};
+ghost use Rattle.selector.specs.Rows.{rowAt, tagOf};
 ghost use Rattle.table.specs.Shape.{same};
 ghost use Rattle.table.specs.Entering.{sameTag, sameSubject, leads, isHit, cachedFrom, cached};
 
@@ -57,14 +56,6 @@ pub fn same_lists(list: &[u32], other: &[u32]) -> bool
         return false;
     }
     compare(list, other) == 0
-}
-
-// The ids of a row: from word `at` on, as many as the word at `count` says.
-fn ids<'a>(words: &'a [u32], at: usize, count: usize) -> &'a [u32]
-    requires { ⌜ at < 1000000000000 ⌝ }
-    ensures { λ r. ⌜ now r ≡ wordsFrom (now (words .entry)) at (getD (now (words .entry)) count 0) ⌝ }
-{
-    part(words, at, at + wide(word(words, count)))
 }
 
 // Whether the subject whose row begins at word `at` is the one of the other row.

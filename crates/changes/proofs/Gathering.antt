@@ -8,7 +8,7 @@ use native.Mathlib.Numerals.{add-one}
 use native.Mathlib.Omega.{arith}
 use lib.ListN.{length, getD, take, drop, length-append, length-take, take-append-drop}
 use lib.Seq.{take-suc, take-all, length-take-le}
-use Rattle.theory.specs.Lists.{Ascending, ascends, insert, sort, member}
+use Rattle.theory.specs.Lists.{Ascending, ascends, inserted, sort, member}
 use Rattle.theory.proofs.Lists.{append-in, flatMap-append, ascends-is, sort-in, sort-ascending, insert-length}
 use Rattle.theory.proofs.Spreads.{flatMap-one}
 use Rattle.lent.specs.Pool.{listAt}
@@ -41,9 +41,9 @@ sort-first a d = sort-ext (sort a ++ d) (a ++ d) (λ c.
     (λ h. j .1 (elim (i .0 h) [ inl x ↦ inl (k .0 x) | inr x ↦ inr x ]), λ h. i .1 (elim (j .0 h) [ inl x ↦ inl (k .1 x) | inr x ↦ inr x ])))
 
 -- one more id
-pub insert-sorted : (x : ℕ) (l : List ℕ) → Ascending l → insert x l ≡ sort ((x ∷ []) ++ l)
+pub insert-sorted : (x : ℕ) (l : List ℕ) → Ascending l → inserted x l ≡ sort ((x ∷ []) ++ l)
 unfolding sort
-insert-sorted x l p = ap (insert x) (sym (sort-ascended l p))
+insert-sorted x l p = ap (inserted x) (sym (sort-ascended l p))
 
 -- ids are not lost, and as many come in at most
 grows : (b l : List ℕ) → Ascending l → (length l ≤ length (sort (b ++ l))) × (length (sort (b ++ l)) ≤ length b + length l)
@@ -106,7 +106,7 @@ module _ {w given d e : List ℕ} {r used i n : ℕ} (s : Inserting w r given d 
   pub inserting-asks : i < length given → (n < length e) × (ascends (take n e) ≡ true)
   inserting-asks h = (omega (arith, inserting-size, s .room, s .gathered .few, length-take-le i given (omega arith)), gather-up (s .gathered))
 
-  pub inserting-next : {x m : ℕ} {f : List ℕ} → i < length given → x ≡ getD given i 0 → Holds (insert x (take n e)) e m f → Inserting w r given d used (i + 1) m f
+  pub inserting-next : {x m : ℕ} {f : List ℕ} → i < length given → x ≡ getD given i 0 → Holds (inserted x (take n e)) e m f → Inserting w r given d used (i + 1) m f
   inserting-next {x} {m} {f} h q k = record {
     are = s .are;
     room = s .room;

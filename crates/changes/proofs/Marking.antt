@@ -8,7 +8,7 @@ use lib.ListN.{getD}
 use mir.Syntax.{w16}
 use mir.Val.{Fits}
 use borrow.Author.Tests.{ne-eqb}
-use Rattle.theory.specs.Lists.{insert, only, sort, spread}
+use Rattle.theory.specs.Lists.{inserted, only, sort, spread}
 use Rattle.theory.specs.Sizes
 use Rattle.theory.proofs.Lists.{flatMap-append, select-ascending}
 use Rattle.theory.proofs.Spreads.{flatMap-one}
@@ -68,7 +68,7 @@ module _ {w : List ℕ} {base room n : ℕ} {m₀ : List ℕ} {e : ℕ} {m : Lis
       let few : getD w e 0 ≤ 65535 = rw p at (s .half (e - base) (omega arith)) in
       record { fits = omega arith }
 
-  pub marking-one : {m′ : List ℕ} {k x : ℕ} {b : Bool} → e < base + n → k ≡ getD w (e + room) 0 → b ≡ ofResource k → b ≡ true → x ≡ getD w e 0 → idsIn m′ ≡ insert x (idsIn m)
+  pub marking-one : {m′ : List ℕ} {k x : ℕ} {b : Bool} → e < base + n → k ≡ getD w (e + room) 0 → b ≡ ofResource k → b ≡ true → x ≡ getD w e 0 → idsIn m′ ≡ inserted x (idsIn m)
       → Marking w base room n m₀ (e + 1) m′
   marking-one {m′} {k} {x} h q t o f i = record {
     half = s .half;

@@ -9,10 +9,10 @@ use lib.Dec.{eqb}
 use borrow.Author.Tests.{lt-ltb, le-ltb, eq-eqb, ne-eqb}
 use Rattle.theory.specs.Lists.{_∈_, sort}
 use Rattle.theory.proofs.Lists.{sort-in}
-use Rattle.lent.specs.Refusals.{told, answered, firstOf}
+use Rattle.lent.specs.Refusals.{told, answered, firstOf, oneIf}
 use Rattle.lent.specs.declared.Refusal.{Refusal}
 use Rattle.changeset.specs.Marks.{idsIn}
-use Rattle.changeset.specs.Sets.{oneIf, tooShort, Lists, setOf, unionOf, setVerdict, unionVerdict, countVerdict}
+use Rattle.changeset.specs.Sets.{tooShort, Lists, setOf, unionOf, setVerdict, unionVerdict, countVerdict}
 use Rattle.changeset.specs.declared.Changing.{Changing}
 use Rattle.changeset.proofs.Marks.{ids-none, sort-join}
 

@@ -1,6 +1,6 @@
 -- Change sets: lists of property ids, ascending and each once, in lent half words. Assumes nothing.
 use mathlib.Core.Path.{_≡_}
-use mathlib.Core.Bool.{Bool, cond}
+use mathlib.Core.Bool.{cond}
 use mathlib.Core.List.{List, [], _∷_, _++_}
 use Prim.Native.Nat.{ℕ}
 use lib.ListN.{length, take}
@@ -23,9 +23,6 @@ abbrev pub emptinessTold : Emptiness → List ℕ
 emptinessTold emptiness.Yes = 0 ∷ 1 ∷ []
 emptinessTold emptiness.No = 0 ∷ 0 ∷ []
 emptinessTold (emptiness.Refused r) = told r
-
-abbrev pub oneIf : Bool → ℕ
-oneIf b = cond b 1 0
 
 -- ---- refusals
 

@@ -4,8 +4,8 @@ ghost use mathlib.Core.Path.{_≡_};
 ghost use mathlib.Core.List.{[], _∷_};
 ghost use lib.ListN.{length};
 ghost use lib.Dec.{eqb};
-ghost use Rattle.lent.specs.Refusals.{answered};
-ghost use Rattle.changeset.specs.Sets.{changingTold, emptinessTold, oneIf, setOf, unionOf, setVerdict, unionVerdict, countVerdict, Lists};
+ghost use Rattle.lent.specs.Refusals.{answered, oneIf};
+ghost use Rattle.changeset.specs.Sets.{changingTold, emptinessTold, setOf, unionOf, setVerdict, unionVerdict, countVerdict, Lists};
 
 pub mod held;
 

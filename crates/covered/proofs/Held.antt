@@ -17,8 +17,9 @@ use Rattle.lent.specs.Pool.{startOf, listAt}
 use Rattle.lent.proofs.Pool.{Rising}
 use Rattle.selector.specs.Tags.{Tags, stepMatches}
 use Rattle.table.specs.Shape.{same}
+use Rattle.table.specs.Entering.{sameState}
 use Rattle.table.proofs.Same.{same-is}
-use Rattle.covered.specs.Rooms.{sameState, holds, including, heldAlong, numbersOf}
+use Rattle.covered.specs.Rooms.{holds, including, heldAlong, numbersOf}
 use Rattle.covered.proofs.Columns.{EndToEnd}
 use Rattle.covered.proofs.Known.{below}
 use Rattle.covered.proofs.Found.{state-is}

@@ -1,6 +1,6 @@
 -- Room for a path, and what its enterings answer and leave. Assumes nothing.
 use mathlib.Core.Path.{_≡_}
-use mathlib.Core.Bool.{Bool, true, false, _&&_, _||_, cond}
+use mathlib.Core.Bool.{Bool, true, false, _||_, cond}
 use mathlib.Core.List.{List, [], _∷_, _++_}
 use Prim.Native.Nat.{ℕ, _+_, _*_, _≤_}
 use lib.ListN.{length}
@@ -11,14 +11,10 @@ use Rattle.selector.specs.Checks.{tagsAscend}
 use Rattle.typed.specs.declared.SelectorInputs.{SelectorInputs}
 use Rattle.typed.specs.Typed.{inputsTags, inputsRow}
 use Rattle.table.specs.Tables.{Table, selectorsOf}
-use Rattle.table.specs.Shape.{same}
-use Rattle.table.specs.Entering.{entered, childOf}
+use Rattle.table.specs.Entering.{sameState, entered, childOf}
 use Rattle.table.specs.Calls.{enterVerdict}
 
 -- ---- the states that a path needs
-
-abbrev pub sameState : State → State → Bool
-sameState a b = same (a .cursors) (b .cursors) && same (a .matched) (b .matched)
 
 unfoldable pub holds : List State → State → Bool
 holds [] s = false

@@ -12,7 +12,7 @@ ghost use Rattle.selector.specs.Checks.{subjectsOff};
 ghost use Rattle.selector.specs.Matching.{hitAt, farAt};
 ghost use Rattle.selector.specs.Diagnosing.{tried, judge, diagnosisTold, diagnosisOf};
 
-// What is found of the n steps from `step` on, with `step` at `place`.
+// What is found of the steps from `step` on, up to the last of n, with `step` at `place`.
 fn diagnose_path_from(
     steps: &[u32],
     n: usize,

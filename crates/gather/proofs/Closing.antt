@@ -12,7 +12,7 @@ use borrow.Author.Tests.{ne-eqb, lt-ltb, le-ltb}
 use Rattle.lent.specs.Refusals.{firstOf}
 use Rattle.lent.proofs.Refusals.{first-hit, first-pass, first-end}
 use Rattle.sheet.specs.Layout.{stylesIn}
-use Rattle.theory.specs.Weight.{total}
+use Rattle.theory.specs.Lists.{total}
 use Rattle.selector.specs.Rows.{selectorOf}
 use Rattle.sheet.specs.Shape.{sheetShape}
 use Rattle.sheet.specs.Laying.{idsHeld}

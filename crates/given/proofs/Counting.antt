@@ -3,7 +3,7 @@ use mathlib.Core.Path.{_≡_, sym, _∙_}
 use mathlib.Core.List.{List, []}
 use Prim.Native.Nat.{ℕ, _+_}
 use native.Mathlib.Omega.{arith}
-use Rattle.theory.specs.Weight.{total}
+use Rattle.theory.specs.Lists.{total}
 use Rattle.theory.proofs.Spreads.{map-spread}
 use Rattle.selector.specs.declared.Specificity.{Specificity}
 use Rattle.selector.specs.Rows.{combBefore, stepAt, selectorOf}

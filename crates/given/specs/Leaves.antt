@@ -1,4 +1,4 @@
--- What private functions of the pushes require and say. Assumes nothing.
+-- What the cores of the pushes require and say. For contracts within and cores alone. Assumes nothing.
 use mathlib.Core.Path.{_≡_}
 use mathlib.Core.Bool.{true}
 use mathlib.Core.List.{List, [], _∷_}

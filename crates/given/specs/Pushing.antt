@@ -94,6 +94,7 @@ pushedGroup w origin g n = lay [] (rulesGiven origin (Layout.nextIn w) g n) (Lay
 
 -- ---- "Pushing a cascade 11, 2, 7": v is pushed onto w
 
+-- "a count is over its size": of rules, of direct styles, and "In a whole sheet" of required ids and of entries
 unfoldable pub sumsOver : List ℕ → List ℕ → Bool
 sumsOver w v =
     ltb Sizes.RULES (Layout.rulesIn w + Layout.rulesIn v)
@@ -112,6 +113,7 @@ shiftStyle k d = record { origin = d .origin; source = k + d .source; entries = 
 abbrev pub shiftRule : ℕ → Rule → Rule
 shiftRule k r = record { origin = r .origin; source = k + r .source; order = r .order; selector = r .selector; entries = r .entries }
 
+-- "a push would use a source index over 65,535"
 unfoldable pub indexesOver : List ℕ → List ℕ → Bool
 indexesOver w v = not (atMost Sizes.SOURCE-INDEX (map (λ x. Layout.nextIn w + x) (indexesOf (sheetOf v))))
 

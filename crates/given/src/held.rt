@@ -5,6 +5,7 @@ use lent::words::copy_into;
 use lent::words::wide;
 use lent::words::widen_into;
 use lent::words::word;
+use selector::held::flag;
 use selector::held::ids;
 use sheet::layout;
 use sheet::shape::step_place;
@@ -17,21 +18,13 @@ ghost use lib.Seq.{sets};
 ghost use Rattle.lent.specs.All.{allBelow};
 ghost use Rattle.selector.specs.Rows.{tagOf, tagNumber};
 ghost use Rattle.selector.specs.Checks.{rowFits};
-ghost use Rattle.selector.specs.Weighing.{isSet};
 ghost use Rattle.style.specs.Entries.{entriesOf};
 ghost use Rattle.sheet.specs.Layout.{stepPlace, RULE-ORIGIN, RULE-WORDS, STYLE-ORIGIN, STYLE-WORDS};
 ghost use Rattle.sheet.specs.Laying.{stepWords, layEntries};
 ghost use Rattle.given.specs.Pushing.{allEntriesIn};
 ghost use Rattle.given.specs.Leaves.{CountsOf, countsList, partOf, Ids};
 
-// 1 where the tag whose flag is the word at `at` is set.
-fn flag(rows: &[u32], at: usize) -> u32
-    ensures { λ r. ⌜ r ≡ isSet (tagOf (getD (now (rows .entry)) at 0) (getD (now (rows .entry)) (at + 1) 0)) ⌝ }
-{
-    if word(rows, at) == 0 { 0 } else { 1 }
-}
-
-// Its number; 0 where it is not set.
+// The number of the tag whose flag is the word at `at`; 0 where it is not set.
 fn tag(rows: &[u32], at: usize) -> u32
     requires { ⌜ at < 4294967296 ⌝ }
     ensures { λ r. ⌜ r ≡ tagNumber (tagOf (getD (now (rows .entry)) at 0) (getD (now (rows .entry)) (at + 1) 0)) ⌝ }

@@ -8,9 +8,8 @@ use native.Mathlib.Numerals.{add-one}
 use native.Mathlib.Omega.{arith}
 use lib.ListN.{length, getD, drop, length-append, length-drop}
 use lib.Seq.{getD-drop}
-use Rattle.theory.specs.Lists.{spread, sumBelow}
+use Rattle.theory.specs.Lists.{spread, sumBelow, total}
 use Rattle.theory.specs.Paths.{Selector}
-use Rattle.theory.specs.Weight.{total}
 use Rattle.theory.proofs.Lists.{flatMap-append, sort-length}
 use Rattle.theory.proofs.Spreads.{length-spread, spread-same, spread-more, spread-snoc, spread-shift, sum-bound, flatMap-one, length-rows}
 use Rattle.lent.specs.Pool.{startOf}

@@ -9,8 +9,7 @@ use lib.ListN.{length, getD, drop}
 use lib.Seq.{sets, length-sets}
 use mir.Syntax.{w32}
 use mir.Val.{Fits}
-use Rattle.theory.specs.Lists.{sumBelow}
-use Rattle.theory.specs.Weight.{total}
+use Rattle.theory.specs.Lists.{sumBelow, total}
 use Rattle.theory.proofs.Lists.{flatMap-append}
 use Rattle.theory.proofs.Spreads.{length-spread, flatMap-one, sum-next, sum-same, sum-bound}
 use Rattle.lent.specs.All.{allBelow}

@@ -86,7 +86,7 @@ fn indexes_over(sheet: &[u32], other: &[u32]) -> bool
     65535 < wide(word(sheet, layout::NEXT_SOURCE)) + wide(largest_index(other))
 }
 
-// "Pushing a cascade 11, 2, 7."
+// "Pushing a cascade 11, 2, 7".
 pub fn cascade_verdict(sheet: &[u32], other: &[u32]) -> u32
     ensures { λ r. ⌜ r ≡ cascadeVerdict (now (sheet .entry)) (now (other .entry)) ⌝ }
 {

@@ -7,8 +7,7 @@ use native.Mathlib.Nat.{add-zero}
 use native.Mathlib.Omega.{arith}
 use lib.ListN.{length, getD, replicate, getD-replicate}
 use lib.Seq.{sets, length-sets}
-use Rattle.theory.specs.Lists.{sumBelow}
-use Rattle.theory.specs.Weight.{total}
+use Rattle.theory.specs.Lists.{sumBelow, total}
 use Rattle.theory.proofs.Spreads.{part-spread}
 use Rattle.lent.specs.Pool.{startOf}
 use Rattle.lent.proofs.Placing.{sets-after, sets-inside, sets-same}

@@ -10,9 +10,8 @@ use native.Mathlib.Omega.{arith}
 use lib.ListN.{length, getD, drop, length-drop}
 use lib.Seq.{length-take-le}
 use borrow.Author.Tests.{le-leb}
-use Rattle.theory.specs.Lists.{_∈_, ascends, atMost, spread, sumBelow}
+use Rattle.theory.specs.Lists.{_∈_, ascends, atMost, spread, sumBelow, total}
 use Rattle.theory.specs.Paths.{Part, Selector}
-use Rattle.theory.specs.Weight.{total}
 use Rattle.theory.proofs.Lists.{and-left, and-right, flatMap-append}
 use Rattle.theory.proofs.Spreads.{length-spread, map-spread, spread-more, spread-snoc, flatMap-one}
 use Rattle.lent.specs.Pool.{startOf}

@@ -9,9 +9,8 @@ use native.Mathlib.Omega.{arith}
 use lib.ListN.{length, getD, drop, length-map}
 use lib.Seq.{drop-drop}
 use borrow.Author.Tests.{ne-eqb}
-use Rattle.theory.specs.Lists.{_∈_, ascends, atMost, spread, sumBelow}
+use Rattle.theory.specs.Lists.{_∈_, ascends, atMost, spread, sumBelow, total}
 use Rattle.theory.specs.Paths.{Comb, child, descendant, Part, Selector}
-use Rattle.theory.specs.Weight.{total}
 use Rattle.theory.proofs.Lists.{and-both, flatMap-in}
 use Rattle.theory.proofs.Spreads.{length-spread, map-spread, spread-shift, part-spread, sum-same, at-most-at, at-most-append}
 use Rattle.lent.specs.Pool.{endsIn, startOf, listAt}

@@ -77,6 +77,10 @@ unfoldable pub checksBelow : ℕ → (ℕ → List Check) → List Check
 checksBelow zero checks = []
 checksBelow (suc n) checks = checksBelow n checks ++ checks n
 
+-- Yes is told as 1, no as 0
+abbrev pub oneIf : Bool → ℕ
+oneIf b = cond b 1 0
+
 -- A call's answer as numbers: what an accepted call tells, a list that begins with 0, or the refusal's number alone
 abbrev pub answered : ℕ → List ℕ → List ℕ
 answered verdict accepted = cond (eqb verdict 0) accepted (verdict ∷ [])

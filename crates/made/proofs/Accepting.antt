@@ -9,9 +9,8 @@ use lib.ListN.{length, getD, take, drop, length-map, length-append, length-take}
 use lib.Seq.{getD-drop}
 use lib.Dec.{leb, ltb}
 use borrow.Author.Tests.{leb-true, lt-ltb, le-ltb, ltb-false, not-true, not-false}
-use Rattle.theory.specs.Lists.{_∈_, ascends, atMost, spread, sumBelow}
+use Rattle.theory.specs.Lists.{_∈_, ascends, atMost, spread, sumBelow, total}
 use Rattle.theory.specs.Paths.{Part}
-use Rattle.theory.specs.Weight.{total}
 use Rattle.theory.proofs.Lists.{le-or-lt, and-left, and-right, sort-length, sort-ascending, ascends-is}
 use Rattle.theory.proofs.Spreads.{length-spread, map-spread, part-spread, flatMap-one, sum-same}
 use Rattle.lent.specs.All.{allBelow}

@@ -1,6 +1,6 @@
 -- The ways through the functions that take a record of those up to kind 8. Assumes nothing.
 use mathlib.Core.Path.{_≡_, refl, sym, _∙_, subst}
-use mathlib.Core.Bool.{cond, false}
+use mathlib.Core.Bool.{cond, true, false}
 use mathlib.Core.List.{List, []}
 use Prim.Native.Nat.{ℕ, _+_, _≤_, _<_}
 use native.Mathlib.Omega.{arith}

@@ -12,7 +12,7 @@ ghost use Rattle.selector.specs.Matching.{anyFrom, fitsFrom, hitAt, farAt, matc
 
 pub mod held;
 
-// Whether the n steps from `step` on fit, with `step` at `place`, to the end of the m places.
+// Whether the steps from `step` on, up to the last of n, fit to the end of the m places, with `step` at `place`.
 fn matches_path_from(
     steps: &[u32],
     n: usize,

@@ -63,7 +63,7 @@ fn put_held_steps(sheet: &mut [u32], s: u32, other: &[u32], n: u32)
     }
 }
 
-// The row of rule k of the other sheet, as rule r, its source index raised.
+// The row of rule k of the other sheet, after the rules that are held, its source index and its ends raised.
 fn put_held_rule(sheet: &mut [u32], c: Counts, other: &[u32], k: u32)
     requires { ⌜ Within c × (k < rulesIn (now other)) × (sheetShape (now other) ≡ true) ⌝ }
     ensures { λ _. ⌜ now (sheet .exit) ≡ sets (now (sheet .entry)) (RULE-ORIGIN + RULE-WORDS * (c .rules + k)) (heldRow c (now (other .entry)) k) ⌝ }

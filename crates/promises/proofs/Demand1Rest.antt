@@ -9,7 +9,7 @@ use lib.Dec.{ltb, eqb}
 use denote.Ref.{RefT}
 use Rattle.theory.specs.Sizes
 use Rattle.theory.specs.Weight.{weightOf}
-use Rattle.lent.specs.Refusals.{Check, check, answered}
+use Rattle.lent.specs.Refusals.{Check, check, answered, oneIf}
 use Rattle.selector.specs.Tags.{asSets, stepMatches}
 use Rattle.selector.specs.Checks.{tagsAscend, selectorOver, combinatorsOff, codesOver, selectorVerdict}
 use Rattle.selector.specs.Matching.{matchingTold}
@@ -45,7 +45,7 @@ use Rattle.given.specs.Pushing.{emptyVerdict}
 use Rattle.builder.specs.Answers.{pushingTold, Push}
 use Rattle.builder.specs.declared.Pushing.{Pushing}
 use Rattle.changeset.specs.Sets as Sets
-use Rattle.changeset.specs.Sets.{changingTold, Lists, setOf, unionOf, setVerdict, unionVerdict, countVerdict, oneIf}
+use Rattle.changeset.specs.Sets.{changingTold, Lists, setOf, unionOf, setVerdict, unionVerdict, countVerdict}
 use Rattle.changeset.specs.declared.Changing.{Changing}
 use Rattle.changeset.specs.declared.Emptiness as SetEmptiness
 use Rattle.promises.specs.Refusing.{First, Refusing, Guarding}

@@ -7,7 +7,7 @@ use lib.ListN.{length, getElem?}
 use lib.Dec.{eqb}
 use denote.Ref.{RefT, now}
 use Rattle.theory.specs.Weight.{weightOf}
-use Rattle.lent.specs.Refusals.{answered}
+use Rattle.lent.specs.Refusals.{answered, oneIf}
 use Rattle.property.specs.declared.PropertyId.{PropertyId}
 use Rattle.selector.specs.Matching.{matchingTold, matchingOf}
 use Rattle.selector.specs.Diagnosing.{diagnosisTold, diagnosisOf}
@@ -51,7 +51,7 @@ use Rattle.channels.specs.Channels.{channelsOf, lowestTold, lowestOf}
 use Rattle.channels.specs.declared.ChannelSet.{ChannelSet}
 use Rattle.channels.proofs.Distinct.{lowest-determined, affected-determined}
 use Rattle.changeset.specs.Sets as Sets
-use Rattle.changeset.specs.Sets.{changingTold, Lists, setOf, countVerdict, oneIf}
+use Rattle.changeset.specs.Sets.{changingTold, Lists, setOf, countVerdict}
 use Rattle.changeset.specs.declared.Changing.{Changing}
 use Rattle.changeset.proofs.Distinct as SetAnswers
 use Rattle.looking.specs.Calls.{winnerIn, entryIn}

@@ -6,10 +6,9 @@ use native.Mathlib.Omega.{arith}
 use lib.ListN.{length, getD, drop, replicate, length-replicate}
 use lib.Seq.{append-snoc}
 use borrow.Author.Tests.{le-ltb}
-use Rattle.theory.specs.Lists.{_∈_, ascendsFrom, member, contained, insert, sort, select, atMost, sumBelow, compare}
+use Rattle.theory.specs.Lists.{_∈_, ascendsFrom, member, contained, inserted, sort, select, atMost, sumBelow, compare, total}
 use Rattle.theory.specs.Paths.{child}
 use Rattle.theory.specs.States.{Sheet, State, root, enter}
-use Rattle.theory.specs.Weight.{total}
 use Rattle.lent.specs.All.{allBelow}
 use Rattle.lent.specs.Refusals.{firstOf, checksBelow}
 use Rattle.selector.specs.Tags.{Tags, tagOk, stepMatches}
@@ -61,7 +60,7 @@ halves : Halves []
 halves k = omega arith
 
 rule-fits : groupVerdict (emptied words) 0 oneRule 1 ≡ 0
-unfolding groupVerdict firstOf checksBelow rulesOver ruleChecks selectorOver codesOver entriesOver kindsOver propertiesOff allBelow atMost ascendsFrom sumBelow selectorGiven selectorOf rowAt insert sort idsHeld total countsOf
+unfolding groupVerdict firstOf checksBelow rulesOver ruleChecks selectorOver codesOver entriesOver kindsOver propertiesOff allBelow atMost ascendsFrom sumBelow selectorGiven selectorOf rowAt inserted sort idsHeld total countsOf
 rule-fits = rw (
   shape-emptied words room,
   zero-count words room 0 (omega arith),
@@ -78,7 +77,7 @@ abbrev selectors : Sheet Tags
 selectors = (walk.step child 1 ∷ walk.step child 2 ∷ []) ∷ []
 
 selectors-are : selectorsOf (sheetWith oneRule 1) ≡ selectors
-unfolding selectorsOf rulesGiven ruleGiven selectorGiven selectorOf entriesGiven entriesOf rowAt sumBelow insert sort
+unfolding selectorsOf rulesGiven ruleGiven selectorGiven selectorOf entriesGiven entriesOf rowAt sumBelow inserted sort
 selectors-are =
     let all : List sheets.Rule = rulesGiven 0 (Layout.nextIn (emptied words)) oneRule 1 in
     let next : ℕ = Layout.nextIn (emptied words) + 1 in
@@ -95,7 +94,7 @@ states-are : heldAlong selectors (root selectors ∷ []) (root selectors) path
     ∷ record { cursors = 1 ∷ []; matched = [] }
     ∷ record { cursors = []; matched = 0 ∷ [] }
     ∷ []
-unfolding heldAlong holds enter flatMap sort insert stepMatches tagOk contained compare
+unfolding heldAlong holds enter flatMap sort inserted stepMatches tagOk contained compare
 states-are = refl
 
 enough : Roomy (sheetWith oneRule 1) path lent
@@ -140,5 +139,5 @@ p8 =
 -- ---- THEOREM
 
 pub examples : map (λ e. answer (e .question)) table ≡ map (λ e. e .expected) table
-unfolding table ascendsFrom member contained insert sort firstOf allBelow tagOk stepMatches rowAt selectorOver pathOver codesOver subjectsOff pathVerdict someFit otherErrors lastOr tried judge diagnose diagnosisOf stepTags inputsTags stepVerdict stepMatching flatMap
+unfolding table ascendsFrom member contained inserted sort firstOf allBelow tagOk stepMatches rowAt selectorOver pathOver codesOver subjectsOff pathVerdict someFit otherErrors lastOr tried judge diagnose diagnosisOf stepTags inputsTags stepVerdict stepMatching flatMap
 examples = rw p8

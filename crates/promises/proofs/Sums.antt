@@ -10,8 +10,8 @@ use lib.ListN.{length, getD}
 use lib.Dec.{ltb}
 use lib.IntN.{pos, negsuc}
 use borrow.Author.Tests.{ltb-true, ltb-false, not-false}
-use Rattle.theory.specs.Lists.{compare}
-use Rattle.theory.specs.Weight.{Counts, total, Weight, weightOf}
+use Rattle.theory.specs.Lists.{compare, total}
+use Rattle.theory.specs.Weight.{Counts, Weight, weightOf}
 use Rattle.theory.proofs.Lists.{or-first, or-second, sort-length}
 use Rattle.theory.proofs.Spreads.{length-spread}
 use Rattle.theory.proofs.Level3.{weight-level3}

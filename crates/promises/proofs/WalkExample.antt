@@ -5,7 +5,7 @@ use mathlib.Core.Logic.{_≢_}
 use Prim.Native.Nat.{ℕ, _+_, _*_}
 use native.Mathlib.Omega.{arith}
 use lib.ListN.{length}
-use Rattle.theory.specs.Lists.{contained, insert, sort, select}
+use Rattle.theory.specs.Lists.{contained, inserted, sort, select}
 use Rattle.theory.specs.States.{Sheet, State, rule, enter, run}
 use Rattle.theory.proofs.Decide.{fitsTail}
 use Rattle.selector.specs.Tags.{Tags, tagOk, stepMatches}
@@ -59,19 +59,19 @@ unfolding run
 after-none = refl
 
 pub after-1 : after (typed 1 ∷ []) ≡ record { cursors = 9 ∷ []; matched = [] }
-unfolding run enter flatMap sort insert stepMatches tagOk contained
+unfolding run enter flatMap sort inserted stepMatches tagOk contained
 after-1 = refl
 
 pub after-1-9 : after (typed 1 ∷ typed 9 ∷ []) ≡ record { cursors = 9 ∷ []; matched = [] }
-unfolding run enter flatMap sort insert stepMatches tagOk contained
+unfolding run enter flatMap sort inserted stepMatches tagOk contained
 after-1-9 = refl
 
 pub after-1-5 : after (typed 1 ∷ typed 5 ∷ []) ≡ record { cursors = 9 ∷ []; matched = 0 ∷ 1 ∷ [] }
-unfolding run enter flatMap sort insert stepMatches tagOk contained
+unfolding run enter flatMap sort inserted stepMatches tagOk contained
 after-1-5 = refl
 
 pub after-5 : after (typed 5 ∷ []) ≡ record { cursors = []; matched = 0 ∷ [] }
-unfolding run enter flatMap sort insert stepMatches tagOk contained
+unfolding run enter flatMap sort inserted stepMatches tagOk contained
 after-5 = refl
 
 -- a number that tells these states apart

@@ -4,8 +4,7 @@ use mathlib.Core.List.{List, [], _∷_, _++_, map, flatMap}
 use Prim.Native.Nat.{ℕ, zero, suc, _+_, _≤_}
 use native.Mathlib.Omega.{arith}
 use lib.ListN.{length, replicate, length-replicate}
-use Rattle.theory.specs.Lists.{ascendsFrom, insert, sort, atMost, sumBelow}
-use Rattle.theory.specs.Weight.{total}
+use Rattle.theory.specs.Lists.{ascendsFrom, inserted, sort, atMost, sumBelow, total}
 use Rattle.lent.specs.All.{allBelow}
 use Rattle.lent.specs.Refusals.{firstOf, checksBelow}
 use Rattle.selector.specs.Rows.{rowAt, selectorOf}
@@ -89,14 +88,14 @@ module _ (v : List ℕ) (room : Layout.SHEET-WORDS ≤ length v) where
   -- ---- the group
 
   group-fits : groupVerdict styled 0 rules 2 ≡ 0
-  unfolding groupVerdict firstOf checksBelow rulesOver ruleChecks selectorOver codesOver entriesOver kindsOver propertiesOff allBelow atMost ascendsFrom sumBelow selectorGiven selectorOf rowAt insert sort idsHeld total countsOf
+  unfolding groupVerdict firstOf checksBelow rulesOver ruleChecks selectorOver codesOver entriesOver kindsOver propertiesOff allBelow atMost ascendsFrom sumBelow selectorGiven selectorOf rowAt inserted sort idsHeld total countsOf
   group-fits = rw (style-pushed (emptied v) 0 (1 ∷ []) (0 ∷ []) (10 ∷ []) 1 halves-style style-fits .shape, no-rules, no-ids, no-entries, one-entry, next-one)
 
   abbrev whole : List ℕ
   whole = pushedGroup styled 0 rules 2
 
   whole-sheet : sheetOf whole ≡ walkSheet
-  unfolding rulesGiven ruleGiven selectorGiven selectorOf entriesGiven entriesOf rowAt sumBelow insert sort
+  unfolding rulesGiven ruleGiven selectorGiven selectorOf entriesGiven entriesOf rowAt sumBelow inserted sort
   whole-sheet =
       let one : Style = styleGiven 0 (Layout.nextIn (emptied v)) (1 ∷ []) (0 ∷ []) (10 ∷ []) 1 in
       let two : List Rule = rulesGiven 0 (Layout.nextIn styled) rules 2 in

@@ -11,8 +11,7 @@ use native.Mathlib.Decide.{ℕ-discrete}
 use lib.ListN.{length, getD}
 use lib.Dec.{eqb}
 use borrow.Author.Tests.{ne-eqb}
-use Rattle.theory.specs.Lists.{_∈_, Ascending, compare}
-use Rattle.theory.specs.Weight.{total}
+use Rattle.theory.specs.Lists.{_∈_, Ascending, compare, total}
 use Rattle.theory.specs.Cascade.{Key, compareKeys, isOne, winner}
 use Rattle.theory.proofs.Lists.{ascending-ext}
 use Rattle.theory.proofs.Spreads.{length-spread, getD-spread}

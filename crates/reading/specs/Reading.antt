@@ -8,14 +8,13 @@ use lib.ListN.{length, drop}
 use lib.Dec.{ltb, eqb}
 use Rattle.theory.specs.Sizes
 use Rattle.theory.specs.Paths.{Comb, child, descendant, Part}
-use Rattle.lent.specs.Refusals.{told, check, firstOf, answered}
+use Rattle.lent.specs.Refusals.{told, check, firstOf, oneIf, answered}
 use Rattle.lent.specs.Pool.{startOf}
 use Rattle.selector.specs.Tags.{Tags}
 use Rattle.typed.specs.declared.TypeChoice.{TypeChoice}
 use Rattle.typed.specs.declared.PartChoice.{PartChoice}
 use Rattle.steps.specs.Steps.{asking, stepFrom}
 use Rattle.style.specs.Entries.{Entry}
-use Rattle.style.specs.Looking.{oneIf}
 use Rattle.sheet.specs.Layout
 use Rattle.sheet.specs.Sheets.{Style, Rule, isNil, ruleAt, sheetOf, ruleStepEnds}
 use Rattle.sheet.specs.Shape.{sheetShape}

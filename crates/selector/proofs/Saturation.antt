@@ -6,8 +6,8 @@ use mathlib.Core.Option.{Option, none, some}
 use Prim.Native.Nat.{ℕ, zero, suc, _+_, _*_, _≤_, _<_}
 use native.Mathlib.Nat.{zero-add}
 use native.Mathlib.Omega.{arith}
-use Rattle.theory.specs.Lists.{spread}
-use Rattle.theory.specs.Weight.{Counts, total, weightOf}
+use Rattle.theory.specs.Lists.{spread, total}
+use Rattle.theory.specs.Weight.{Counts, weightOf}
 use Rattle.theory.proofs.Lists.{sort-length}
 use Rattle.lent.proofs.All.{all-at}
 use Rattle.selector.specs.declared.Specificity.{Specificity}

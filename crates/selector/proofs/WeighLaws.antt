@@ -10,8 +10,8 @@ use lib.Dec.{ltb}
 use mir.Syntax.{w32}
 use mir.Val.{Fits}
 use borrow.Author.Tests.{eq-eqb, ne-eqb, ltb-false, not-true}
-use Rattle.theory.specs.Lists.{sort, spread}
-use Rattle.theory.specs.Weight.{Counts, total}
+use Rattle.theory.specs.Lists.{sort, spread, total}
+use Rattle.theory.specs.Weight.{Counts}
 use Rattle.theory.proofs.Lists.{and-left, and-right, sort-length}
 use Rattle.lent.specs.All.{allBelow}
 use Rattle.idset.specs.Buffers.{Holds}

@@ -4,8 +4,8 @@ use mathlib.Core.Option.{Option, none, some}
 use mathlib.Core.List.{List, [], _∷_}
 use Prim.Native.Nat.{ℕ, _≤_}
 use lib.ListN.{length}
-use Rattle.theory.specs.Lists.{spread}
-use Rattle.theory.specs.Weight.{Counts, total, Weight, weightNumbers, weightOf}
+use Rattle.theory.specs.Lists.{spread, total}
+use Rattle.theory.specs.Weight.{Counts, Weight, weightNumbers, weightOf}
 use Rattle.lent.specs.Refusals.{told, answered}
 use Rattle.selector.specs.declared.Specificity.{Specificity}
 use Rattle.selector.specs.declared.Weighing.{Weighing}

@@ -5,12 +5,13 @@ use lent::words::wide;
 use lent::words::word;
 ghost use mathlib.Core.Path.{_≡_};
 ghost use mathlib.Core.Bool.{true};
-ghost use Prim.Native.Nat.{_<_, _+_};
+ghost use Prim.Native.Nat.{_+_, _≤_, _<_};
 ghost use lib.ListN.{getD};
 ghost use Rattle.theory.specs.Lists.{ascends, contained};
 ghost use Rattle.selector.specs.Tags.{asSets, tagOk, stepMatches};
 ghost use Rattle.selector.specs.Rows.{tagOf, wordsFrom, rowAt};
-ghost use Rattle.selector.specs.Checks.{rowFits, tagsAscend};
+ghost use Rattle.selector.specs.Checks.{rowFits, tagsAscend, rowHeld};
+ghost use Rattle.selector.specs.Weighing.{isSet};
 
 pub const STEP_WORDS: usize = 22;
 
@@ -18,16 +19,23 @@ pub const SUBJECT_WORDS: usize = 38;
 
 // The words from `at` on, as many as the word at `count` says.
 pub fn ids<'a>(words: &'a [u32], at: usize, count: usize) -> &'a [u32]
-    requires { ⌜ at < 4294967296 ⌝ }
+    requires { ⌜ at < 1000000000000 ⌝ }
     ensures { λ r. ⌜ now r ≡ wordsFrom (now (words .entry)) at (getD (now (words .entry)) count 0) ⌝ }
 {
     let n = wide(word(words, count));
     lent::held::part(words, at, at + n)
 }
 
+// 1 where the tag whose flag is the word at `at` is set.
+pub fn flag(words: &[u32], at: usize) -> u32
+    ensures { λ r. ⌜ (r ≡ isSet (tagOf (getD (now (words .entry)) at 0) (getD (now (words .entry)) (at + 1) 0))) × (r ≤ 1) ⌝ }
+{
+    if word(words, at) == 0 { 0 } else { 1 }
+}
+
 // Whether the counts of the row that begins at word `at` are within `size`.
 pub fn row_fits(words: &[u32], at: usize, size: u32) -> bool
-    requires { ⌜ at < 4294967296 ⌝ }
+    requires { ⌜ at < 999999999000 ⌝ }
     ensures { λ r. ⌜ r ≡ rowFits size (now (words .entry)) at ⌝ }
 {
     if size < word(words, at + 4) {
@@ -36,15 +44,32 @@ pub fn row_fits(words: &[u32], at: usize, size: u32) -> bool
     word(words, at + 5) <= size
 }
 
-// Whether the ids of the subject row that begins at word `at` ascend.
-pub fn row_ascends(path: &[u32], at: usize) -> bool
-    requires { ⌜ at < 4294967000 ⌝ }
-    ensures { λ r. ⌜ r ≡ tagsAscend (rowAt 16 (now (path .entry)) at) ⌝ }
+// Whether the ids of the row that begins at word `at`, with room for `size` of each kind, ascend.
+pub fn row_ascends(words: &[u32], at: usize, size: usize) -> bool
+    requires { ⌜ (at < 999999999000) × (size ≤ 16) ⌝ }
+    ensures { λ r. ⌜ r ≡ tagsAscend (rowAt size (now (words .entry)) at) ⌝ }
 {
-    if !is_ascending(ids(path, at + 6, at + 4)) {
+    if !is_ascending(ids(words, at + 6, at + 4)) {
         return false;
     }
-    is_ascending(ids(path, at + 22, at + 5))
+    is_ascending(ids(words, at + (6 + size), at + 5))
+}
+
+// Whether the row is one that a sheet or a table may hold.
+pub fn row_held(words: &[u32], at: usize, size: u32) -> bool
+    requires { ⌜ (at < 999999999000) × (size ≤ 16) ⌝ }
+    ensures { λ r. ⌜ r ≡ rowHeld size (now (words .entry)) at ⌝ }
+{
+    if 1 < word(words, at) {
+        return false;
+    }
+    if 1 < word(words, at + 2) {
+        return false;
+    }
+    if !row_fits(words, at, size) {
+        return false;
+    }
+    row_ascends(words, at, wide(size))
 }
 
 // Whether the tag at word s of a step, where set, is the one at word x of a subject.

@@ -4,7 +4,7 @@ use Prim.Native.Nat.{ℕ, _+_, _-_, _*_}
 use lib.ListN.{length, replicate, take}
 use lib.Seq.{sets}
 use Rattle.theory.specs.Paths.{Comb, child, descendant, Part, Selector}
-use Rattle.theory.specs.Weight.{total}
+use Rattle.theory.specs.Lists.{total}
 use Rattle.selector.specs.Tags.{Tags}
 use Rattle.selector.specs.Rows.{tagNumber}
 use Rattle.selector.specs.Weighing.{isSet}

@@ -7,7 +7,7 @@ use native.Mathlib.Nat.{add-zero}
 use lib.Dec.{ltb}
 use borrow.Author.Tests.{ltb-false, not-true, not-false}
 use Rattle.theory.proofs.Lists.{and-left, and-right}
-use Rattle.theory.specs.Weight.{total}
+use Rattle.theory.specs.Lists.{total}
 use Rattle.lent.specs.Refusals.{firstOf}
 use Rattle.selector.specs.declared.Specificity.{Specificity}
 use Rattle.selector.specs.Tags.{asSets, stepMatches}

@@ -48,12 +48,13 @@ askingType s t = stepOf (TypeChoice.Set t) (s .«part_tag») (s .«required_clas
 abbrev pub askingPart : SelectorStep → PartTag → SelectorStep
 askingPart s p = stepOf (s .«type_tag») (PartChoice.Set p) (s .«required_classes») (s .«class_count») (s .«required_pseudos») (s .«pseudo_count»)
 
--- One id more, after n. There is room for 8: the count of a ninth is 9 and stays, so that the step is refused wherever it is used
+-- One id more, after n. There is room for 8: the count of a ninth is 9 and stays, so that the step is refused wherever it is used.
+-- "required classes and required pseudos 0 to 8 each as given"
 abbrev pub added : {A : Type 0} → List A → ℕ → A → List A
-added ids n id = cond (ltb n 8) (set ids n id) ids
+added ids n id = cond (ltb n Sizes.STEP-IDS) (set ids n id) ids
 
 abbrev pub raised : ℕ → ℕ
-raised n = cond (ltb n 8) (n + 1) 9
+raised n = cond (ltb n Sizes.STEP-IDS) (n + 1) (Sizes.STEP-IDS + 1)
 
 abbrev pub askingClass : SelectorStep → ClassId → SelectorStep
 askingClass s c =

@@ -1,6 +1,6 @@
 -- What the look-ups of a style answer, as numbers: 0 and what was found, or a refusal's own number. Assumes nothing.
 use mathlib.Core.Path.{_≡_}
-use mathlib.Core.Bool.{Bool, true, false, cond}
+use mathlib.Core.Bool.{cond}
 use mathlib.Core.Option.{Option, none, some}
 use mathlib.Core.List.{List, [], _∷_}
 use Prim.Native.Nat.{ℕ, zero, suc}
@@ -8,7 +8,7 @@ use lib.ListN.{take}
 use lib.Dec.{eqb, ltb}
 use denote.Ref.{RefT}
 use Rattle.theory.specs.Lists.{member}
-use Rattle.lent.specs.Refusals.{told, answered}
+use Rattle.lent.specs.Refusals.{told, oneIf, answered}
 use Rattle.style.specs.declared.Containing.{Containing}
 use Rattle.style.specs.declared.Containing.the-variants as containing
 use Rattle.style.specs.declared.Place.{Place}
@@ -60,10 +60,6 @@ lengthTold (len.Entries n) = 0 ∷ n ∷ []
 lengthTold (len.Refused r) = told r
 
 -- ---- what each answers
-
-abbrev pub oneIf : Bool → ℕ
-oneIf true = 1
-oneIf false = 0
 
 -- where p stands first; the list's length where it does not
 unfoldable pub placeOf : ℕ → List ℕ → ℕ

@@ -71,8 +71,11 @@ unfoldable pub firstFrom : (ℕ → Bool) → ℕ → ℕ → ℕ
 firstFrom p k zero = k
 firstFrom p k (suc n) = cond (p k) k (firstFrom p (k + 1) n)
 
+abbrev pub sameState : State → State → Bool
+sameState a b = same (a .cursors) (b .cursors) && same (a .matched) (b .matched)
+
 unfoldable pub isState : List ℕ → List ℕ → List ℕ → State → ℕ → Bool
-isState states cursors matched s k = same (Tables.cursorsAt states cursors k) (s .cursors) && same (Tables.matchedAt states matched k) (s .matched)
+isState states cursors matched s k = sameState (record { cursors = Tables.cursorsAt states cursors k; matched = Tables.matchedAt states matched k }) s
 
 -- "the first of equal .. states": its number, or the next one if none is held
 unfoldable pub numberFor : List ℕ → List ℕ → List ℕ → ℕ → State → ℕ

@@ -10,9 +10,9 @@ use lib.ListN.{take, drop, replicate}
 use lib.Seq.{take-nil}
 use lib.Dec.{T}
 use Rattle.theory.specs.Paths.{Comb, child, descendant, Part, Selector, Fits, FitsTail, Places}
-use Rattle.theory.specs.Level3.{Chain, sequence, Element, top, under, OfAncestor, Represents, Simple, class, pseudoClass, type, pseudoElement, inA, inB, inC, count, specificity}
-use Rattle.theory.specs.Lists.{compare}
-use Rattle.theory.specs.Weight.{Counts, total, weightNumbers, weightOf}
+use Rattle.theory.specs.Level3.{Chain, sequence, Element, top, under, OfAncestor, Represents, Simple, class, pseudoClass, type, pseudoElement, inA, inB, inC, specificity}
+use Rattle.theory.specs.Lists.{compare, total}
+use Rattle.theory.specs.Weight.{Counts, weightNumbers, weightOf}
 use Rattle.theory.specs.Reading.{joined, chainFrom, chainOf, elementFrom, elementOf, simplesOf, simples}
 use Rattle.theory.proofs.Lists.{snoc-induction}
 use Rattle.theory.proofs.Paths.{Upto, upto-snoc, fits-snoc, fits-nil, waits-nil}
@@ -91,27 +91,27 @@ module _ {Step Subject : Type 0} (ok : Step → Subject → Bool) where
 
 -- ---- specificity
 
-count-append : (f : Simple → ℕ) (l m : List Simple) → count f (l ++ m) ≡ count f l + count f m
-unfolding count
-count-append f [] m = omega arith
-count-append f (s ∷ l) m = omega (arith, count-append f l m)
+total-append : {A : Type 0} (f : A → ℕ) (l m : List A) → total f (l ++ m) ≡ total f l + total f m
+unfolding total
+total-append f [] m = omega arith
+total-append f (s ∷ l) m = omega (arith, total-append f l m)
 
-count-replicate : (f : Simple → ℕ) (n : ℕ) (s : Simple) → count f (replicate n s) ≡ n * f s
-unfolding count
-count-replicate f zero s = sym (zero-mul (f s))
-count-replicate f (suc n) s = rw (suc-mul n (f s)) (omega (arith, count-replicate f n s))
+total-replicate : {A : Type 0} (f : A → ℕ) (n : ℕ) (s : A) → total f (replicate n s) ≡ n * f s
+unfolding total
+total-replicate f zero s = sym (zero-mul (f s))
+total-replicate f (suc n) s = rw (suc-mul n (f s)) (omega (arith, total-replicate f n s))
 
 -- what a step adds
-count-step : (f : Simple → ℕ) (c : Counts) (l : List Simple)
-    → count f (simplesOf c ++ l) ≡ c .types * f type + c .classes * f class + c .pseudos * f pseudoClass + c .parts * f pseudoElement + count f l
-count-step f c l = simp (count-append, count-replicate) (omega arith)
+total-step : (f : Simple → ℕ) (c : Counts) (l : List Simple)
+    → total f (simplesOf c ++ l) ≡ c .types * f type + c .classes * f class + c .pseudos * f pseudoClass + c .parts * f pseudoElement + total f l
+total-step f c l = simp (total-append, total-replicate) (omega arith)
 
-counted : (l : List Counts) → (count inA (simples l) ≡ 0) × (count inB (simples l) ≡ weightOf 1 l .first) × (count inC (simples l) ≡ weightOf 1 l .second)
-unfolding count total flatMap
+counted : (l : List Counts) → (total inA (simples l) ≡ 0) × (total inB (simples l) ≡ weightOf 1 l .first) × (total inC (simples l) ≡ weightOf 1 l .second)
+unfolding total flatMap
 counted [] = (refl, omega arith, omega arith)
 counted (c ∷ l) =
     let (a, b, d) = counted l in
-    (omega (arith, count-step inA c (simples l)), omega (arith, count-step inB c (simples l)), omega (arith, count-step inC c (simples l)))
+    (omega (arith, total-step inA c (simples l)), omega (arith, total-step inB c (simples l)), omega (arith, total-step inC c (simples l)))
 
 -- Ranking 1 is Level 3's specificity: a is 0, b and c are the first two numbers of the weight
 pub weight-level3 : (l : List Counts) → specificity (simples l) ≡ 0 ∷ weightOf 1 l .first ∷ weightOf 1 l .second ∷ []

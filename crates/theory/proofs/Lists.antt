@@ -11,7 +11,7 @@ use lib.ListN.{length, getD, take}
 use lib.Seq.{append-snoc, take-suc}
 use lib.Dec.{T, leb, eqb}
 use borrow.Author.Tests.{lt-ltb, le-ltb, le-leb, leb-true, eq-eqb, ne-eqb, eqb-true}
-use Rattle.theory.specs.Lists.{_∈_, Ascending, ascendsFrom, ascends, member, contained, insert, sort, only, select}
+use Rattle.theory.specs.Lists.{_∈_, Ascending, ascendsFrom, ascends, member, contained, inserted, sort, only, select}
 
 -- ---- numbers and tests
 
@@ -116,20 +116,20 @@ append-ascending (a ∷ l) m p q h = (
 
 -- ---- sorting
 
-pub insert-skip : (x a : ℕ) (l : List ℕ) → a < x → insert x (a ∷ l) ≡ a ∷ insert x l
-unfolding insert
+pub insert-skip : (x a : ℕ) (l : List ℕ) → a < x → inserted x (a ∷ l) ≡ a ∷ inserted x l
+unfolding inserted
 insert-skip x a l h = rw (lt-ltb a x h)
 
-pub insert-same : (x a : ℕ) (l : List ℕ) → a ≡ x → insert x (a ∷ l) ≡ a ∷ l
-unfolding insert
+pub insert-same : (x a : ℕ) (l : List ℕ) → a ≡ x → inserted x (a ∷ l) ≡ a ∷ l
+unfolding inserted
 insert-same x a l h = rw (le-ltb a x (omega arith), eq-eqb a x h)
 
-pub insert-here : (x a : ℕ) (l : List ℕ) → x < a → insert x (a ∷ l) ≡ x ∷ a ∷ l
-unfolding insert
+pub insert-here : (x a : ℕ) (l : List ℕ) → x < a → inserted x (a ∷ l) ≡ x ∷ a ∷ l
+unfolding inserted
 insert-here x a l h = rw (le-ltb a x (omega arith), ne-eqb a x (omega arith))
 
-pub insert-in : (x : ℕ) (l : List ℕ) (c : ℕ) → (c ∈ insert x l) ↔ ((c ≡ x) ⊎ (c ∈ l))
-insert-in x [] c = unfold insert in (λ h. List·Memᴰ·cases-cons h, elim [ inl e ↦ List·Memᴰ·head e | inr h ↦ absurd (List·Memᴰ·not-nil h) ])
+pub insert-in : (x : ℕ) (l : List ℕ) (c : ℕ) → (c ∈ inserted x l) ↔ ((c ≡ x) ⊎ (c ∈ l))
+insert-in x [] c = unfold inserted in (λ h. List·Memᴰ·cases-cons h, elim [ inl e ↦ List·Memᴰ·head e | inr h ↦ absurd (List·Memᴰ·not-nil h) ])
 insert-in x (a ∷ l) c =
     ⊎-elim
     (λ (p : x ≤ a). ⊎-elim
@@ -146,8 +146,8 @@ insert-in x (a ∷ l) c =
     ))
     (le-or-lt x a)
 
-pub insert-ascending : (x : ℕ) (l : List ℕ) → Ascending l → Ascending (insert x l)
-insert-ascending x [] h = unfold insert in (λ b m. absurd (List·Memᴰ·not-nil m), tt)
+pub insert-ascending : (x : ℕ) (l : List ℕ) → Ascending l → Ascending (inserted x l)
+insert-ascending x [] h = unfold inserted in (λ b m. absurd (List·Memᴰ·not-nil m), tt)
 insert-ascending x (a ∷ l) h =
     ⊎-elim
     (λ (p : x ≤ a). ⊎-elim
@@ -171,18 +171,18 @@ sort-ascending [] = tt
 sort-ascending (a ∷ l) = insert-ascending a (sort l) (sort-ascending l)
 
 -- one more at the right end
-pub sort-snoc : (l : List ℕ) (a : ℕ) → sort (l ++ a ∷ []) ≡ insert a (sort l)
-sort-snoc l a = ascending-ext (sort (l ++ a ∷ [])) (insert a (sort l)) (sort-ascending (l ++ a ∷ [])) (insert-ascending a (sort l) (sort-ascending l))
+pub sort-snoc : (l : List ℕ) (a : ℕ) → sort (l ++ a ∷ []) ≡ inserted a (sort l)
+sort-snoc l a = ascending-ext (sort (l ++ a ∷ [])) (inserted a (sort l)) (sort-ascending (l ++ a ∷ [])) (insert-ascending a (sort l) (sort-ascending l))
     (λ c. (
       λ h. insert-in a (sort l) c .1 (elim (append-in l (a ∷ []) c .0 (sort-in (l ++ a ∷ []) c .0 h)) [ inl m ↦ inr (sort-in l c .1 m) | inr m ↦ inl (List·Memᴰ·eq-of-singleton m) ]),
       λ h. sort-in (l ++ a ∷ []) c .1 (append-in l (a ∷ []) c .1 (elim (insert-in a (sort l) c .0 h) [ inl e ↦ inr (List·Memᴰ·head e) | inr m ↦ inl (sort-in l c .0 m) ])),
     ))
 
-pub sort-next : (l : List ℕ) (i : ℕ) → i < length l → sort (take (suc i) l) ≡ insert (getD l i 0) (sort (take i l))
+pub sort-next : (l : List ℕ) (i : ℕ) → i < length l → sort (take (suc i) l) ≡ inserted (getD l i 0) (sort (take i l))
 sort-next l i h = rw (take-suc l i 0 h) (sort-snoc (take i l) (getD l i 0))
 
-pub insert-length : (x : ℕ) (l : List ℕ) → (length l ≤ length (insert x l)) × (length (insert x l) ≤ suc (length l))
-insert-length x [] = unfold insert in omega arith
+pub insert-length : (x : ℕ) (l : List ℕ) → (length l ≤ length (inserted x l)) × (length (inserted x l) ≤ suc (length l))
+insert-length x [] = unfold inserted in omega arith
 insert-length x (a ∷ l) =
     ⊎-elim
     (λ (p : x ≤ a). ⊎-elim (λ q. rw (insert-same x a l (omega arith)) (omega arith)) (λ q. rw (insert-here x a l q) (omega arith)) (le-or-lt a x))

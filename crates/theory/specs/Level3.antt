@@ -2,8 +2,9 @@
 use mathlib.Core.Logic.{_⊎_}
 use mathlib.Core.Bool.{Bool}
 use mathlib.Core.List.{List, [], _∷_}
-use Prim.Native.Nat.{ℕ, _+_}
+use Prim.Native.Nat.{ℕ}
 use lib.Dec.{T}
+use Rattle.theory.specs.Lists.{total}
 
 -- §4: a selector is a chain of one or more sequences of simple selectors, separated by combinators. A step stands for a sequence
 pub data Chain (Step : Type 0) : Type 0 where
@@ -74,10 +75,6 @@ inC type = 1
 inC pseudoElement = 1
 inC universal = 0
 
-unfoldable pub count : (Simple → ℕ) → List Simple → ℕ
-count f [] = 0
-count f (s ∷ l) = f s + count f l
-
 -- a, b, c; specificities are compared in that order
 abbrev pub specificity : List Simple → List ℕ
-specificity l = count inA l ∷ count inB l ∷ count inC l ∷ []
+specificity l = total inA l ∷ total inB l ∷ total inC l ∷ []

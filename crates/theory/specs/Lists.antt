@@ -33,14 +33,14 @@ contained [] m = true
 contained (a ∷ l) m = member a m && contained l m
 
 -- x put before the first number that is not below it, unless that is x
-unfoldable pub insert : ℕ → List ℕ → List ℕ
-insert x [] = x ∷ []
-insert x (a ∷ l) = cond (ltb a x) (a ∷ insert x l) (cond (eqb a x) (a ∷ l) (x ∷ a ∷ l))
+unfoldable pub inserted : ℕ → List ℕ → List ℕ
+inserted x [] = x ∷ []
+inserted x (a ∷ l) = cond (ltb a x) (a ∷ inserted x l) (cond (eqb a x) (a ∷ l) (x ∷ a ∷ l))
 
 -- 01: "sorted and made unique"
 unfoldable pub sort : List ℕ → List ℕ
 sort [] = []
-sort (a ∷ l) = insert a (sort l)
+sort (a ∷ l) = inserted a (sort l)
 
 -- n alone, or nothing
 abbrev pub only : Bool → ℕ → List ℕ
@@ -61,6 +61,11 @@ spread f k (suc n) = f k ∷ spread f (suc k) n
 unfoldable pub sumBelow : (ℕ → ℕ) → ℕ → ℕ
 sumBelow f zero = 0
 sumBelow f (suc n) = sumBelow f n + f n
+
+-- The sum of f over a list
+unfoldable pub total : {A : Type 0} → (A → ℕ) → List A → ℕ
+total f [] = 0
+total f (a ∷ l) = f a + total f l
 
 -- The numbers below n that pass a test, ascending
 unfoldable pub select : (ℕ → Bool) → ℕ → List ℕ

@@ -1,4 +1,4 @@
--- 01, "Sizes", and the codes of its refusal 6: each number once. "All sizes are inclusive." Assumes nothing.
+-- 01, "Sizes", and the codes of its refusal 6, by name, as the tests of the refusals and of the shapes ask for them. "All sizes are inclusive." Assumes nothing.
 use Prim.Native.Nat.{ℕ}
 
 -- "Rules 0 to 256,
@@ -45,7 +45,11 @@ SOURCE-INDEX = 65535
 abbrev pub NEXT-INDEX : ℕ
 NEXT-INDEX = 65536
 
--- .. property ids u16": so many there are
+-- .. property ids u16": to 65,535,
+abbrev pub PROPERTY-ID : ℕ
+PROPERTY-ID = 65535
+
+-- so many there are
 abbrev pub PROPERTY-IDS : ℕ
 PROPERTY-IDS = 65536
 

@@ -7,7 +7,7 @@ use Prim.Native.Nat.{ℕ, suc, _+_, _*_, _/_, _%_, _≤_}
 use lib.ListN.{length, getElem?, getD}
 use lib.Dec.{ltb, eqb}
 use Rattle.theory.specs.Sizes
-use Rattle.theory.specs.Lists.{insert, sort, only}
+use Rattle.theory.specs.Lists.{inserted, sort, only}
 use Rattle.theory.specs.Paths.{Comb, child, descendant, Part, Selector}
 
 -- The rules' selectors, by rule number
@@ -87,10 +87,10 @@ sheet = (part child 1 ∷ part child 2 ∷ []) ∷ [] ∷ (part child 1 ∷ part
 
 -- at 2 under 1 `1 > 2` is listed, and the cursor at the second step of `1 3` is kept
 at-2 : run eqb sheet (1 ∷ 2 ∷ []) ≡ record { cursors = cursor 2 1 ∷ []; matched = 0 ∷ [] }
-unfolding run enter flatMap sort insert
+unfolding run enter flatMap sort inserted
 at-2 = refl
 
 -- at 3 under 2 under 1, and at a further 3 under that one, `1 3` and `3` are: the cursor is kept though it has matched
 at-3 : run eqb sheet (1 ∷ 2 ∷ 3 ∷ 3 ∷ []) ≡ record { cursors = cursor 2 1 ∷ []; matched = 2 ∷ 3 ∷ [] }
-unfolding run enter flatMap sort insert
+unfolding run enter flatMap sort inserted
 at-3 = refl

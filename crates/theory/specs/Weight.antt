@@ -3,7 +3,7 @@ use mathlib.Core.Path.{_≡_, refl}
 use mathlib.Core.List.{List, [], _∷_}
 use Prim.Native.Nat.{ℕ, zero, suc, _+_}
 use lib.IntN.{pos, negsuc}
-use Rattle.theory.specs.Lists.{compare}
+use Rattle.theory.specs.Lists.{compare, total}
 
 -- How many a step asks for of each, counted from its sets
 pub record Counts : Type 0 where
@@ -11,11 +11,6 @@ pub record Counts : Type 0 where
   pub classes : ℕ
   pub parts : ℕ
   pub types : ℕ
-
--- "each summed over the steps"
-unfoldable pub total : (Counts → ℕ) → List Counts → ℕ
-total f [] = 0
-total f (c ∷ l) = f c + total f l
 
 -- Four numbers, compared in order
 pub record Weight : Type 0 where

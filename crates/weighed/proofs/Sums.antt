@@ -6,8 +6,8 @@ use Prim.Native.Nat.{ℕ, zero, suc, _+_, _-_, _*_, _≤_, _<_}
 use native.Mathlib.Omega.{arith}
 use lib.ListN.{length, getD, drop, length-drop}
 use lib.Seq.{length-take-le}
-use Rattle.theory.specs.Lists.{spread}
-use Rattle.theory.specs.Weight.{Counts, total, weightOf}
+use Rattle.theory.specs.Lists.{spread, total}
+use Rattle.theory.specs.Weight.{Counts, weightOf}
 use Rattle.theory.proofs.Spreads.{map-spread}
 use Rattle.lent.specs.Pool.{startOf}
 use Rattle.selector.specs.Rows.{rowAt, tagOf, wordsFrom}

@@ -1,18 +1,18 @@
 // The weights of rows that keep to their sizes.
-use lent::words::word;
 use selector::Specificity;
 use selector::held::STEP_WORDS;
+use selector::held::flag;
 use selector::held::ids;
 ghost use mathlib.Core.Path.{_≡_};
 ghost use mathlib.Core.Bool.{true};
 ghost use Prim.Native.Nat.{ℕ, _+_, _<_, _≤_, _*_};
-ghost use lib.ListN.{length, getD};
+ghost use lib.ListN.{length};
 ghost use Rattle.theory.specs.Lists.{sort};
 ghost use Rattle.lent.specs.All.{allBelow};
-ghost use Rattle.selector.specs.Rows.{tagOf, rowAt};
+ghost use Rattle.selector.specs.Rows.{rowAt};
 ghost use Rattle.selector.specs.Checks.{rowFits};
 ghost use Rattle.selector.specs.Tags.{asSets};
-ghost use Rattle.selector.specs.Weighing.{isSet, countsIn, Counted, Summed};
+ghost use Rattle.selector.specs.Weighing.{countsIn, Counted, Summed};
 
 // How many different ids there are.
 fn different(given: &[u32]) -> u32
@@ -23,13 +23,6 @@ fn different(given: &[u32]) -> u32
     idset::held::from_ids(given, &mut set) as u32
 }
 
-// 1 where the tag whose flag is the word at `at` is set.
-fn set_flag(words: &[u32], at: usize) -> u32
-    ensures { λ r. ⌜ (r ≡ isSet (tagOf (getD (now (words .entry)) at 0) (getD (now (words .entry)) (at + 1) 0))) × (r ≤ 1) ⌝ }
-{
-    if word(words, at) == 0 { 0 } else { 1 }
-}
-
 // `SelectorStep::specificity`, of the row that begins at word s.
 pub fn step_specificity(steps: &[u32], s: usize) -> Specificity
     requires { ⌜ (s < 4294967000) × (rowFits 8 (now steps) s ≡ true) ⌝ }
@@ -37,7 +30,7 @@ pub fn step_specificity(steps: &[u32], s: usize) -> Specificity
 {
     let pseudos = different(ids(steps, s + 14, s + 5));
     let classes = different(ids(steps, s + 6, s + 4));
-    Specificity(pseudos, classes, set_flag(steps, s + 2), set_flag(steps, s))
+    Specificity(pseudos, classes, flag(steps, s + 2), flag(steps, s))
 }
 
 // Each count summed over n steps.

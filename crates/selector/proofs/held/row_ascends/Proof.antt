@@ -25,6 +25,9 @@ add-ids-3 c = search needs
 add-ids-4 : tie.Need-add-ids-4
 add-ids-4 c = search needs
 
+add-ids-5 : tie.Need-add-ids-5
+add-ids-5 c = search needs
+
 ids-requires-2 : tie.Need-ids-requires-2
 ids-requires-2 c κs = search needs
 
@@ -45,6 +48,7 @@ row-ascends-spec =
     returns
     add-ids-3
     add-ids-4
+    add-ids-5
     ids-requires-2
     is-ascending-requires-2
     returns-2)

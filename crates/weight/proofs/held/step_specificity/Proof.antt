@@ -27,14 +27,14 @@ ids-requires-2 c κs = search needs
 different-requires-2 : tie.Need-different-requires-2
 different-requires-2 c κs = search (classes-few, needs)
 
-add-set-flag : tie.Need-add-set-flag
-add-set-flag c = search needs
+add-flag : tie.Need-add-flag
+add-flag c = search needs
 
-set-flag-requires : tie.Need-set-flag-requires
-set-flag-requires c κs = search needs
+flag-requires : tie.Need-flag-requires
+flag-requires c κs = search needs
 
-set-flag-requires-2 : tie.Need-set-flag-requires-2
-set-flag-requires-2 c κs = search needs
+flag-requires-2 : tie.Need-flag-requires-2
+flag-requires-2 c κs = search needs
 
 returns : tie.Need-returns
 returns c = search (step-counted, needs)
@@ -51,7 +51,7 @@ step-specificity-spec =
     add-ids-4
     ids-requires-2
     different-requires-2
-    add-set-flag
-    set-flag-requires
-    set-flag-requires-2
+    add-flag
+    flag-requires
+    flag-requires-2
     returns)

@@ -1,7 +1,7 @@
 use borrow.Author.Needs.{needs}
 use Rattle.selector.proofs.WeighLaws.{flag-none, flag-set}
-use Rattle.given.proofs.held.flag.Statement.{statement}
-use Rattle.given.proofs.held.flag.Tie as tie
+use Rattle.selector.proofs.held.flag.Statement.{statement}
+use Rattle.selector.proofs.held.flag.Tie as tie
 
 word-requires : tie.Need-word-requires
 word-requires c κs = search needs
