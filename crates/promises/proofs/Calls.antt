@@ -52,7 +52,7 @@ module _ {w : List ℕ} where
     pub build-reaches : Reached w t′ 0 stamp []
     build-reaches = let (v, e) = built-is b in subst (λ (u : Table). Reached w u 0 stamp []) (sym e) (root t stamp ranking (eight, v))
 
-    -- the table holds the root alone,
+    -- the table holds the root alone:
     pub build-holds-root : heldIn t′ ≡ rootOf (selectorsOf w) ∷ []
     build-holds-root = let (v, e) = built-is b in ap heldIn e ∙ held-built w t stamp ranking (eight, v)
 
