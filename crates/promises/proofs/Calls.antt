@@ -7,17 +7,15 @@ use Prim.Native.Nat.{ℕ, _+_, _*_, _<_}
 use lib.ListN.{length}
 use borrow.Author.Tests.{lt-ltb, eq-eqb}
 use denote.Ref.{RefT}
-use Rattle.theory.specs.Lists.{_∈_, Ascending, select}
+use Rattle.theory.specs.Lists.{_∈_, Ascending}
 use Rattle.theory.specs.Paths.{FitsTail}
 use Rattle.theory.specs.States.{root as rootOf, rule, enter}
-use Rattle.theory.proofs.Decide.{fitsTail}
 use Rattle.lent.specs.Pool.{startOf}
 use Rattle.lent.specs.Refusals.{firstOf}
 use Rattle.lent.specs.declared.Refusal.{Refusal}
 use Rattle.selector.specs.Tags.{Tags, stepMatches}
 use Rattle.typed.specs.declared.SelectorInputs.{SelectorInputs}
 use Rattle.typed.specs.Typed.{inputsTags, inputsRow}
-use Rattle.sheet.specs.Layout.{rulesIn}
 use Rattle.table.specs.Tables.{Table, selectorsOf, stampIn, statesIn, transitionsIn, matchedEnds, stateAt}
 use Rattle.table.specs.Entering as Memory
 use Rattle.table.specs.Entering.{transitionFits}
@@ -39,6 +37,7 @@ use Rattle.covered.specs.Covered.After.{more}
 use Rattle.covered.specs.Rooms.{heldIn, including}
 use Rattle.covered.proofs.Rooms.{held-built, held-entered}
 use Rattle.covered.proofs.Reached.{reached-covered, reached-is}
+use Rattle.promises.specs.Paths.{rulesOn}
 use Rattle.promises.proofs.Listed.{count-is-length, listed-exactly, listed-ascending, listed-is, equal-subjects-one-child, kept-found, child-state, next-number, covered-in-shape}
 
 module _ {w : List ℕ} where
@@ -163,7 +162,7 @@ module _ {w : List ℕ} where
       rules-ascending = rw given (listed-ascending p)
 
       -- of the sheet's rules those that pass the test, in order
-      pub rules-given : part .now ≡ select (λ k. fitsTail stepMatches (rule (selectorsOf w) k) path) (rulesIn w)
+      pub rules-given : part .now ≡ rulesOn w path
       rules-given = given ∙ listed-is p
 
       -- "handed back as the part of the lent buffer that holds it": it stands where they stand in the buffer

@@ -23,9 +23,9 @@ use Rattle.changes.specs.Changes.{changedOf}
 use Rattle.looking.specs.Calls.{rulesAt, winnerIn, entryIn}
 use Rattle.cascade.specs.Calls.{changedIn}
 use Rattle.covered.specs.Covered.{Covered, Reached}
+use Rattle.promises.specs.Paths.{rulesOn}
 use Rattle.promises.proofs.Listed.{listed-is}
 use Rattle.promises.proofs.Places.{Within, places-told, places-within, listed-below}
-use Rattle.promises.proofs.Winning.{rulesOn}
 
 -- what is read off the mended answers is what is read off each, mended
 mend-each : {A B : Type 0} (ids : List ℕ) (f : A → ℕ → B) (old new : ℕ → A) (p : ℕ) → mend ids (λ q. f (old q) q) (λ q. f (new q) q) p ≡ f (mend ids old new p) p
