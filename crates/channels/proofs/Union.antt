@@ -11,14 +11,10 @@ use Rattle.theory.specs.Lists.{_∈_}
 use Rattle.theory.proofs.Lists.{or-cases}
 use Rattle.bits.specs.Bits.{bit, bitsIn}
 use Rattle.bits.proofs.Bits.{bit-or, bit-zero, bits-in}
-use Rattle.channels.specs.Channels.{channelsOf}
-
--- some property of the list has a mask with bit k
-abbrev pub Named : List ℕ → List ℕ → ℕ → Type 0
-Named masks ids k = (p : ℕ) × (p ∈ ids) × (bit (getD masks p 0) k ≡ true)
+use Rattle.channels.specs.Channels.{channelsOf, Named}
 
 -- THEOREM: bit k is set exactly if some changed property's mask has it
-pub channel-named : (masks ids : List ℕ) (k : ℕ) → (bit (channelsOf masks ids) k ≡ true) ↔ ((p : ℕ) × (p ∈ ids) × (bit (getD masks p 0) k ≡ true))
+pub channel-named : (masks ids : List ℕ) (k : ℕ) → (bit (channelsOf masks ids) k ≡ true) ↔ Named masks ids k
 unfolding channelsOf
 channel-named masks [] k = (λ e. absurd (true≢false (sym e ∙ bit-zero k)), λ n. absurd (List·Memᴰ·not-nil (n .1)))
 channel-named masks (q ∷ ids) k = (

@@ -9,7 +9,7 @@ use lib.ListN.{length}
 use Rattle.theory.specs.Lists.{_∈_, Ascending, select}
 use Rattle.theory.specs.Paths.{FitsTail}
 use Rattle.theory.specs.States.{State, rule, enter, run}
-use Rattle.theory.proofs.Decide.{fitsTail}
+use Rattle.theory.specs.Tails.{fitsTail}
 use Rattle.theory.proofs.States.{run-snoc, matched-ascending, listed-iff, matched-is}
 use Rattle.selector.specs.Tags.{Tags, stepMatches}
 use Rattle.typed.specs.declared.SelectorInputs.{SelectorInputs}

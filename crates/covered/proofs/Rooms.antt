@@ -1,4 +1,4 @@
--- Rooms for the states that a path needs suffice: no entering along it is refused. Assumes nothing.
+-- The states that a table holds after build and after an entering; rooms for those that a path needs suffice: no entering along it is refused. Assumes nothing.
 use mathlib.Core.Path.{_≡_, refl, sym, ap, ap₂, _∙_, subst}
 use mathlib.Core.Bool.{true, false, and-false}
 use mathlib.Core.Logic.{inl, inr}
@@ -31,16 +31,16 @@ use Rattle.made.specs.Made.{Made}
 use Rattle.made.proofs.Promises.{made-shaped}
 use Rattle.covered.specs.Covered.{Builds, Enters, Covered}
 use Rattle.covered.specs.Covered.Covered.{built}
-use Rattle.covered.specs.Rooms.{including, heldAlong, statesFor, numbersOf, Enough, Roomy, Proper, verdictsAlong}
+use Rattle.covered.specs.Rooms.{heldIn, including, heldAlong, statesFor, numbersOf, Enough, Roomy, Proper, verdictsAlong}
 use Rattle.covered.proofs.Known.{below}
 use Rattle.covered.proofs.Sound.{Sound, cursor-exists, rule-exists}
 use Rattle.covered.proofs.Keeps.{StatesStay, states-stay}
 use Rattle.covered.proofs.Found.{number-is}
 use Rattle.covered.proofs.Growing.{built-word, built-root}
 use Rattle.covered.proofs.Entering.{Right}
-use Rattle.covered.proofs.Accepted.{row-tags, build-accepted, enter-accepts}
+use Rattle.covered.proofs.Accepted.{row-tags, build-accepted, enter-accepted, enter-accepts}
 use Rattle.covered.proofs.Held.{including-held, including-new, spread-in, along-more, numbers-append, numbers-spread, column-sum}
-use Rattle.covered.proofs.Reached.{builds-sound, enters-right}
+use Rattle.covered.proofs.Reached.{builds-sound, enters-right, covered-sound}
 
 -- ---- how long a state's lists are
 
@@ -66,8 +66,12 @@ module _ (w : List ℕ) where
 
   -- ---- the states of a table
 
-  abbrev heldIn : Table → List State
-  heldIn t = spread (stateAt t) 0 (statesIn (t .head))
+  -- build leaves the root alone
+  pub held-built : (t : Table) (stamp ranking : ℕ) → Builds w ranking t → heldIn (Entering.built w stamp ranking t) ≡ root (selectorsOf w) ∷ []
+  held-built t stamp ranking (e, v) =
+      let a = build-accepted w ranking (t .states) (t .cursors) v in
+      ap (spread (stateAt (Entering.built w stamp ranking t)) 0) (built-word w t stamp ranking (a .shape) e (a .ranks) (a .rows) (a .room) 2 (omega arith))
+      ∙ ap (λ (z : State). z ∷ []) (built-root w t stamp ranking (a .shape) e (a .ranks) (a .rows) (a .room))
 
   enough-some : (all some more : List State) {t : Table} → all ≡ some ++ more → Enough all t → Enough some t
   enough-some all some more e n =
@@ -162,6 +166,12 @@ module _ (w : List ℕ) where
               ]
         ]
 
+  -- so after an accepted entering the child is held too
+  pub held-entered : {t : Table} → Covered w t → (number stamp : ℕ) (x : SelectorInputs) → Enters w t number stamp x
+      → heldIn (Entering.entered w t number (inputsRow x)) ≡ including (heldIn t) (enter stepMatches (selectorsOf w) (stateAt t number) (inputsTags x))
+  held-entered {t} c number stamp x v =
+      let s = covered-sound w c in held-after s number (enter-accepted w t number stamp x v .there) (inputsTags x) (enters-right w s number stamp x v)
+
   -- ---- along a path
 
   enough-after : {all : List State} {t t′ : Table} → StatesStay t t′ → Enough all t → Enough all t′
@@ -226,8 +236,7 @@ module _ (w : List ℕ) where
         let word = built-word w t stamp ranking (a .shape) e (a .ranks) (a .rows) (a .room) in
         let made = built-root w t stamp ranking (a .shape) e (a .ranks) (a .rows) (a .room) in
         let b = Entering.built w stamp ranking t in
-        let held : heldIn b ≡ root (selectorsOf w) ∷ [] = ap (spread (stateAt b) 0) (word 2 (omega arith)) ∙ ap (λ (z : State). z ∷ []) made in
-        let all = ap₂ (λ (h : List State) (z : State). heldAlong (selectorsOf w) h z (map inputsTags xs)) held made in
+        let all = ap₂ (λ (h : List State) (z : State). heldAlong (selectorsOf w) h z (map inputsTags xs)) (held-built t stamp ranking (e, v)) made in
         along xs b 0 stamp (builds-sound w t stamp ranking (e, v)) (omega (arith, word 2 (omega arith))) (sym (word 0 (omega arith))) p (subst (λ (h : List State). Enough h b) (sym all) (built-enough stamp ranking r))
 
 -- every made sheet has a covered table: rooms for the root are enough

@@ -9,7 +9,7 @@ use lib.ListN.{length, getD}
 use Rattle.theory.specs.Lists.{_∈_, Ascending}
 use Rattle.theory.specs.States.{State, rule, root, run, cursor}
 use Rattle.theory.proofs.Lists.{append-in, select-in, ascends-is}
-use Rattle.theory.proofs.Decide.{fitsTail}
+use Rattle.theory.specs.Tails.{fitsTail}
 use Rattle.theory.proofs.Steps.{at-below}
 use Rattle.theory.proofs.States.{tested, invariant, cursors-ascending, matched-ascending, matched-is}
 use Rattle.selector.specs.Tags.{Tags, stepMatches}

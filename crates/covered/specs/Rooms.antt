@@ -1,20 +1,25 @@
--- Room for a path, and what its enterings answer and leave. Assumes nothing.
+-- The states that a table holds, room for those of a path, and what its enterings answer and leave. Assumes nothing.
 use mathlib.Core.Path.{_≡_}
 use mathlib.Core.Bool.{Bool, true, false, _||_, cond}
 use mathlib.Core.List.{List, [], _∷_, _++_}
 use Prim.Native.Nat.{ℕ, _+_, _*_, _≤_}
 use lib.ListN.{length}
 use Rattle.theory.specs.Sizes
+use Rattle.theory.specs.Lists.{spread}
 use Rattle.theory.specs.States.{State, Sheet, root, enter}
 use Rattle.selector.specs.Tags.{Tags, stepMatches}
 use Rattle.selector.specs.Checks.{tagsAscend}
 use Rattle.typed.specs.declared.SelectorInputs.{SelectorInputs}
 use Rattle.typed.specs.Typed.{inputsTags, inputsRow}
-use Rattle.table.specs.Tables.{Table, selectorsOf}
+use Rattle.table.specs.Tables.{Table, selectorsOf, statesIn, stateAt}
 use Rattle.table.specs.Entering.{sameState, entered, childOf}
 use Rattle.table.specs.Calls.{enterVerdict}
 
--- ---- the states that a path needs
+-- ---- the states that a table holds
+
+-- 01, "How much each contract says": "an invented list length or state count breaks demand 2, each being the length of a defined list". By number
+abbrev pub heldIn : Table → List State
+heldIn t = spread (stateAt t) 0 (statesIn (t .head))
 
 unfoldable pub holds : List State → State → Bool
 holds [] s = false
@@ -23,6 +28,8 @@ holds (a ∷ held) s = sameState a s || holds held s
 -- with s, unless it is held already
 abbrev pub including : List State → State → List State
 including held s = cond (holds held s) held (held ++ s ∷ [])
+
+-- ---- the states that a path needs
 
 -- the path goes on from s: what is held, and each new state in order of first entry
 unfoldable pub heldAlong : Sheet Tags → List State → State → List Tags → List State

@@ -18,7 +18,7 @@ use Rattle.selector.specs.Tags.{Tags}
 use Rattle.style.specs.Entries.{Entry}
 use Rattle.sheet.specs.Layout
 use Rattle.sheet.specs.Sheets.{Style, Rule, entryAt}
-use Rattle.sheet.specs.Laying.{idWords, stepWords, stepsWords, ruleWords, styleWords, ruleEntries, styleEntries, stepsOf, idsHeld, layEntries, layRules, layStyles, countWords, lay}
+use Rattle.sheet.specs.Laying.{idWords, stepWords, stepsWords, ruleWords, styleWords, ruleEntries, styleEntries, stepsOf, idsHeld, layEntries, layRules, layStyles, countWords, lay, Free}
 
 -- ---- the sizes
 
@@ -164,23 +164,6 @@ pub length-lay : (styles : List Style) (rules : List Rule) (next : ℕ) (w : Lis
 length-lay styles rules next w = rw (lay-stores styles rules next w) (length-writes (puts (areas styles rules next w)) w)
 
 -- ---- every other word
-
--- it stands before n words that are put at `at`, or after them
-abbrev pub Beside : ℕ → ℕ → ℕ → Type 0
-Beside at n i = (i < at) ⊎ (at + n ≤ i)
-
--- the word at i is no count, and stands in no row and no entry that is added
-pub record Free (w : List ℕ) (styles : List Style) (rules : List Rule) (i : ℕ) : Type 0 where
-  pub counts : 7 ≤ i
-  pub rule-rows : Beside (8 + 5 * Layout.rulesIn w) (5 * length rules) i
-  pub step-rows : Beside (1288 + 23 * Layout.stepsIn w) (23 * length (stepsOf rules)) i
-  pub properties : Beside (48392 + Layout.entriesIn w) (length (ruleEntries rules)) i
-  pub kinds : Beside (52488 + Layout.entriesIn w) (length (ruleEntries rules)) i
-  pub numbers : Beside (56584 + Layout.entriesIn w) (length (ruleEntries rules)) i
-  pub style-rows : Beside (60680 + 3 * Layout.stylesIn w) (3 * length styles) i
-  pub style-properties : Beside (60872 + Layout.styleEntriesIn w) (length (styleEntries styles)) i
-  pub style-kinds : Beside (62920 + Layout.styleEntriesIn w) (length (styleEntries styles)) i
-  pub style-numbers : Beside (64968 + Layout.styleEntriesIn w) (length (styleEntries styles)) i
 
 -- THEOREM: "an accepted call leaves what stands past its answer"
 pub lay-others : (w : List ℕ) (styles : List Style) (rules : List Rule) (next i : ℕ) → Free w styles rules i → getD (lay styles rules next w) i 0 ≡ getD w i 0

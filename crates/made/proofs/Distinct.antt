@@ -16,6 +16,7 @@ use Rattle.theory.proofs.Winners.{at-in}
 use Rattle.sheet.specs.Sheets.{Style, Rule, Sheet, Source, direct, listed, sourcesOf, keyOf}
 use Rattle.given.specs.Given.{Group, ruleGiven, rulesGiven}
 use Rattle.given.specs.Pushing.{indexesOf, shiftStyle, shiftRule, largest, nextAfter}
+use Rattle.made.specs.Pushed.{added}
 
 -- ---- the definition
 
@@ -90,9 +91,6 @@ module _ (a b c d : List Source) where
       ])
 
 -- ---- an addition: sources with new indexes, which differ among themselves
-
-abbrev pub added : Sheet → ℕ → List Style → List Rule → Sheet
-added s next styles rules = record { next = next; styles = s .styles ++ styles; rules = s .rules ++ rules }
 
 abbrev addition : List Style → List Rule → List Source
 addition styles rules = map direct styles ++ map listed rules

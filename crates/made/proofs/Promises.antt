@@ -18,10 +18,9 @@ use Rattle.theory.proofs.Spreads.{length-spread, map-spread, getD-spread, getEl
 use Rattle.lent.proofs.Refusals.{first-clear}
 use Rattle.selector.specs.Tags.{Tags, asSets}
 use Rattle.selector.specs.Rows.{rowAt, stepAt, combBefore, selectorOf}
-use Rattle.selector.proofs.Saturation.{Unsaturated}
 use Rattle.steps.specs.Steps.{stepTags}
 use Rattle.sheet.specs.Layout
-use Rattle.sheet.specs.Sheets.{Style, Rule, Source, sourcesOf, keyOf, countsFor, ruleAt, styleAt, sheetOf}
+use Rattle.sheet.specs.Sheets.{Style, Rule, Source, sourcesOf, keyOf, ruleAt, styleAt, sheetOf}
 use Rattle.sheet.specs.Shape.{sheetShape}
 use Rattle.sheet.specs.Laying.{emptied}
 use Rattle.reading.specs.Reading.{StepRead}
@@ -32,13 +31,14 @@ use Rattle.weighed.proofs.Saturation.{rule-never-saturates}
 use Rattle.laid.proofs.Reading.{before-or-added, no-rule}
 use Rattle.laid.proofs.Held.{rules-count}
 use Rattle.laid.proofs.Emptied.{read-emptied, shape-emptied}
-use Rattle.given.specs.Given.{styleGiven, Group, stepCount, stepsFrom, combinatorsFrom, selectorGiven, entriesGiven, ruleGiven, rulesGiven}
+use Rattle.given.specs.Given.{styleGiven, Group, stepCount, stepsFrom, combinatorsFrom, selectorGiven, ruleGiven, rulesGiven}
 use Rattle.given.specs.Pushing.{emptyVerdict, stylePushVerdict, pushedStyle, groupVerdict, pushedGroup, cascadeVerdict, pushedCascade, shiftRule}
 use Rattle.given.proofs.Accepted.{group-accepted}
 use Rattle.made.specs.Made.{Halves, Made, empty, style, group, cascade}
+use Rattle.made.specs.Pushed.{Pushed, ReadBack, Bounded}
 use Rattle.made.proofs.Distinct.{Apart, apart-empty, apart-style, apart-group, apart-cascade, keys-differ, keys-apart}
 use Rattle.made.proofs.Accepting.{given-rules}
-use Rattle.made.proofs.Pushed.{Pushed, style-pushed, group-pushed, cascade-pushed}
+use Rattle.made.proofs.Pushed.{style-pushed, group-pushed, cascade-pushed, rules-more, rules-kept, rules-new, styles-new}
 
 -- an accepted room
 room-enough : (w : List ℕ) → emptyVerdict w ≡ 0 → Layout.SHEET-WORDS ≤ length w
@@ -96,9 +96,9 @@ orders-pushed : {w w′ : List ℕ} {styles : List Style} {rules : List Rule} {n
     → Orders w′
 orders-pushed {w} {w′} {styles} {rules} p old new r h =
     before-or-added (λ r. ruleAt w′ r .order < 256) (Layout.rulesIn w) (length rules)
-    (λ k l. rw (p .rules-kept k l) (old k l))
-    (λ k l. rw (p .rules-new k l) (new k l))
-    r (rw (p .rules-count) at h)
+    (λ k l. rw (rules-kept p k l) (old k l))
+    (λ k l. rw (rules-new p no-rule k l) (new k l))
+    r (rw (rules-more p) at h)
 
 empty-orders : (w : List ℕ) → Layout.SHEET-WORDS ≤ length w → Orders (emptied w)
 empty-orders w room r h = absurd (omega (arith, rules-count (shaped (emptied w) (shape-emptied w room)), ap (λ s. length (s .rules)) (read-emptied w room)))
@@ -127,17 +127,7 @@ made-orders (group {w} m origin g n u e) =
     orders-pushed (group-pushed w origin g n u e) (made-orders m) (given-orders origin (Layout.nextIn w) g n (omega (arith, group-accepted w origin g n e .rules)))
 made-orders (cascade {w} {v} m i e) = orders-pushed (cascade-pushed w v e) (made-orders m) (raised-orders v (Layout.nextIn w) (made-orders i))
 
--- So no sum of matcher.rs is met where it saturates: `take_source_index`, the next index plus one; `offset_source_index`, the current index plus one
--- of a cascade's own; `next_source_index_after`, the largest so made plus one (all usize); and an order is no u32 that `try_from` cuts.
--- Each makes an index, a next index or an order of the sheet after an accepted push. (`next_order` is of `MatcherBuilder`, which is left behind)
--- Nor is one of `Selector::specificity`, whose sums are u32
-pub record Bounded (w : List ℕ) : Type 0 where
-  pub next : Layout.nextIn w ≤ 65536
-  pub style-sources : (d : ℕ) → d < Layout.stylesIn w → styleAt w d .source ≤ 65535
-  pub rule-sources : (r : ℕ) → r < Layout.rulesIn w → ruleAt w r .source ≤ 65535
-  pub orders : Orders w
-  pub weights : (r : ℕ) → r < Layout.rulesIn w → Unsaturated (countsFor (ruleAt w r .selector))
-
+-- so the Rust's saturation is never met
 pub made-bounded : {w : List ℕ} → Made w → Bounded w
 unfolding ruleAt styleAt
 made-bounded {w} m =
@@ -152,7 +142,6 @@ made-bounded {w} m =
 
 -- ---- what was pushed is read back
 
--- rule k of a group is there, and it is the one given: its steps with their ids sorted and made unique, its entries, its origin, the source index taken, its order
 -- step i of a given rule
 abbrev partGiven : Group → ℕ → ℕ → Part Tags
 partGiven g k i = record { comb = combBefore (combinatorsFrom g k) i; step = stepAt (stepsFrom g k) i }
@@ -169,17 +158,13 @@ given-step g k i h =
 some-same : {A : Type 0} (a b : A) → some a ≡ some b → a ≡ b
 some-same a b e = ap (λ o. elim o [ none ↦ a | some x ↦ x ]) e
 
-pub record ReadBack (w : List ℕ) (origin : ℕ) (g : Group) (k : ℕ) (w′ : List ℕ) : Type 0 where
-  pub there : Layout.rulesIn w + k < Layout.rulesIn w′
-  pub is : ruleAt w′ (Layout.rulesIn w + k) ≡ record { origin = origin; source = Layout.nextIn w; order = k; selector = selectorGiven g k; entries = entriesGiven g k }
-
 pub read-back : (w : List ℕ) (origin : ℕ) (g : Group) (n : ℕ) → Halves (g .properties) → groupVerdict w origin g n ≡ 0
     → (k : ℕ) → k < n → ReadBack w origin g k (pushedGroup w origin g n)
 unfolding ruleGiven
 read-back w origin g n u e k h =
     let p = group-pushed w origin g n u e in
     let l = given-rules origin (Layout.nextIn w) g n in
-    record { there = omega (arith, p .rules-count); is = p .rules-new k (omega arith) ∙ given-at origin (Layout.nextIn w) g n k h }
+    record { there = omega (arith, rules-more p); is = rules-new p no-rule k (omega arith) ∙ given-at origin (Layout.nextIn w) g n k h }
 
 -- so that a step which `rule_step` finds there asks for what the given row asks for, "sorted and made unique"
 pub step-back : (w : List ℕ) (origin : ℕ) (g : Group) (n : ℕ) → Halves (g .properties) → groupVerdict w origin g n ≡ 0 → (k : ℕ) → k < n → (i : ℕ) → i < stepCount g k
@@ -197,4 +182,4 @@ pub style-back : (w : List ℕ) (origin : ℕ) (properties kinds numbers : List 
     → styleAt (pushedStyle w origin properties kinds numbers n) (Layout.stylesIn w) ≡ styleGiven origin (Layout.nextIn w) properties kinds numbers n
 style-back w origin properties kinds numbers n u e =
     let p = style-pushed w origin properties kinds numbers n u e in
-    ap (styleAt (pushedStyle w origin properties kinds numbers n)) (sym (add-zero (Layout.stylesIn w))) ∙ p .styles-new 0 (omega arith)
+    ap (styleAt (pushedStyle w origin properties kinds numbers n)) (sym (add-zero (Layout.stylesIn w))) ∙ styles-new p (styleGiven origin (Layout.nextIn w) properties kinds numbers n) 0 (omega arith)

@@ -1,21 +1,24 @@
 -- What an accepted push leaves: a sheet of good shape, which is the sheet before and what was pushed. Assumes nothing.
-use mathlib.Core.Path.{_≡_, refl, sym, _∙_}
+use mathlib.Core.Path.{_≡_, refl, sym, ap, _∙_}
 use mathlib.Core.Bool.{true}
-use mathlib.Core.List.{List, [], _∷_, map}
+use mathlib.Core.List.{List, [], _∷_, _++_, map}
 use Prim.Native.Nat.{ℕ, _+_, _<_}
+use native.Mathlib.Nat.{zero-add}
 use native.Mathlib.Omega.{arith}
-use lib.ListN.{length, getD}
+use lib.ListN.{length, getD, length-append, List·getD-append}
+use lib.Seq.{getD-append-add}
 use borrow.Author.Tests.{le-ltb}
-use Rattle.theory.specs.Lists.{atMost, sumBelow}
+use Rattle.theory.specs.Lists.{spread, atMost, sumBelow}
+use Rattle.theory.proofs.Spreads.{length-spread, getD-spread}
 use Rattle.lent.specs.Refusals.{firstOf}
 use Rattle.lent.specs.Pool.{startOf}
 use Rattle.sheet.specs.Layout
-use Rattle.sheet.specs.Sheets.{Style, Rule, ruleAt, styleAt, sheetOf}
+use Rattle.sheet.specs.Sheets.{Style, Rule, Sheet, ruleAt, styleAt, sheetOf}
 use Rattle.sheet.specs.Shape.{sheetShape}
 use Rattle.sheet.specs.Laying.{lay}
 use Rattle.sheet.proofs.Shaped.{Shaped, shaped}
-use Rattle.laid.proofs.Frame.{Free, length-lay, lay-others, rules-after, styles-after}
-use Rattle.laid.proofs.Reading.{no-rule, no-style, style-at-kept, style-at-new, rule-at-kept, rule-at-new, read-lay}
+use Rattle.laid.proofs.Frame.{length-lay, lay-others}
+use Rattle.laid.proofs.Reading.{read-lay}
 use Rattle.laid.proofs.Shaping.{good-few, shaped-ended, shape-lay}
 use Rattle.laid.proofs.Emptied.{lay-nothing}
 use Rattle.laid.proofs.Held.{steps-few, style-entries-few}
@@ -23,43 +26,58 @@ use Rattle.given.specs.Given.{styleGiven, Group, rulesGiven}
 use Rattle.given.specs.Pushing.{allEntriesIn, stylePushVerdict, pushedStyle, groupVerdict, pushedGroup, sumsOver, indexesOf, shiftStyle, shiftRule, indexesOver, nextAfter, cascadeVerdict, pushedCascade}
 use Rattle.given.proofs.Accepted.{style-accepted, group-accepted, cascade-accepted}
 use Rattle.made.specs.Made.{Halves}
-use Rattle.made.proofs.Distinct.{added}
+use Rattle.made.specs.Pushed.{Pushed}
 use Rattle.made.proofs.Accepting.{Ready, style-ready, group-ready, cascade-ready}
 
 -- ---- every push
 
--- w′ has good shape, and holds the sheet of w with these styles and rules added, and this next source index
-pub record Pushed (w : List ℕ) (styles : List Style) (rules : List Rule) (next : ℕ) (w′ : List ℕ) : Type 0 where
-  pub shape : sheetShape w′ ≡ true
-  pub sheet : sheetOf w′ ≡ added (sheetOf w) next styles rules
-  -- what was there is unchanged,
-  pub styles-kept : (d : ℕ) → d < Layout.stylesIn w → styleAt w′ d ≡ styleAt w d
-  pub rules-kept : (r : ℕ) → r < Layout.rulesIn w → ruleAt w′ r ≡ ruleAt w r
-  -- the new rules and styles stand after it,
-  pub rules-count : Layout.rulesIn w′ ≡ Layout.rulesIn w + length rules
-  pub rules-new : (k : ℕ) → k < length rules → ruleAt w′ (Layout.rulesIn w + k) ≡ getD rules k no-rule
-  pub styles-count : Layout.stylesIn w′ ≡ Layout.stylesIn w + length styles
-  pub styles-new : (k : ℕ) → k < length styles → styleAt w′ (Layout.stylesIn w + k) ≡ getD styles k no-style
-  -- every other word is left: those that are no count, and stand in no row and no entry that was added
-  pub size : length w′ ≡ length w
-  pub others : (i : ℕ) → Free w styles rules i → getD w′ i 0 ≡ getD w i 0
-
 pushed : {w : List ℕ} {styles : List Style} {rules : List Rule} {next : ℕ} → Ready w styles rules next → Pushed w styles rules next (lay styles rules next w)
 pushed {w} {styles} {rules} {next} y =
     let t = shaped-ended w (shaped w (y .shape)) in
-    let few = good-few (y .good) in
     record {
       shape = shape-lay next (y .shape) (y .sizes) (y .entries-sum) (y .ids-sum) (y .good) (y .next-fits);
-      sheet = read-lay next (y .sizes) t few;
-      styles-kept = style-at-kept next (y .sizes) t;
-      rules-kept = rule-at-kept next (y .sizes) t few;
-      rules-count = rules-after next (y .sizes);
-      rules-new = rule-at-new next (y .sizes) t few no-rule;
-      styles-count = styles-after next (y .sizes);
-      styles-new = style-at-new next (y .sizes) t no-style;
+      sheet = read-lay next (y .sizes) t (good-few (y .good));
       size = length-lay styles rules next w;
       others = lay-others w styles rules next;
     }
+
+-- what was there is unchanged, and the new rules and styles stand after it
+module _ {A : Type 0} (f g : ℕ → A) (n m : ℕ) (new : List A) (e : spread g 0 m ≡ spread f 0 n ++ new) where
+  more : m ≡ n + length new
+  more = sym (length-spread g 0 m) ∙ ap length e ∙ length-append (spread f 0 n) new ∙ rw (length-spread f 0 n)
+
+  at : (x : A) (i : ℕ) → i < m → g i ≡ getD (spread f 0 n ++ new) i x
+  at x i h = ap g (sym (zero-add i)) ∙ sym (getD-spread g 0 m i x h) ∙ ap (λ (l : List A). getD l i x) e
+
+  before : (i : ℕ) → i < n → g i ≡ f i
+  before i h =
+      at (f i) i (omega (arith, more)) ∙ List·getD-append (spread f 0 n) new (f i) i (omega (arith, length-spread f 0 n))
+      ∙ getD-spread f 0 n i (f i) h
+      ∙ ap f (zero-add i)
+
+  after : (x : A) (k : ℕ) → k < length new → g (n + k) ≡ getD new k x
+  after x k h = at x (n + k) (omega (arith, more)) ∙ rw (length-spread f 0 n) at (getD-append-add (spread f 0 n) new k x)
+
+module _ {w w′ : List ℕ} {styles : List Style} {rules : List Rule} {next : ℕ} (p : Pushed w styles rules next w′) where
+  rules-are : spread (ruleAt w′) 0 (Layout.rulesIn w′) ≡ spread (ruleAt w) 0 (Layout.rulesIn w) ++ rules
+  unfolding sheetOf
+  rules-are = ap (λ (s : Sheet). s .rules) (p .sheet)
+
+  styles-are : spread (styleAt w′) 0 (Layout.stylesIn w′) ≡ spread (styleAt w) 0 (Layout.stylesIn w) ++ styles
+  unfolding sheetOf
+  styles-are = ap (λ (s : Sheet). s .styles) (p .sheet)
+
+  pub rules-more : Layout.rulesIn w′ ≡ Layout.rulesIn w + length rules
+  rules-more = more (ruleAt w) (ruleAt w′) (Layout.rulesIn w) (Layout.rulesIn w′) rules rules-are
+
+  pub rules-kept : (r : ℕ) → r < Layout.rulesIn w → ruleAt w′ r ≡ ruleAt w r
+  rules-kept = before (ruleAt w) (ruleAt w′) (Layout.rulesIn w) (Layout.rulesIn w′) rules rules-are
+
+  pub rules-new : (x : Rule) (k : ℕ) → k < length rules → ruleAt w′ (Layout.rulesIn w + k) ≡ getD rules k x
+  rules-new = after (ruleAt w) (ruleAt w′) (Layout.rulesIn w) (Layout.rulesIn w′) rules rules-are
+
+  pub styles-new : (x : Style) (k : ℕ) → k < length styles → styleAt w′ (Layout.stylesIn w + k) ≡ getD styles k x
+  styles-new = after (styleAt w) (styleAt w′) (Layout.stylesIn w) (Layout.stylesIn w′) styles styles-are
 
 -- ---- each
 

@@ -4,21 +4,18 @@ use mathlib.Core.Bool.{true}
 use mathlib.Core.Logic.{_↔_}
 use mathlib.Core.List.{List, [], _∷_, _++_}
 use Prim.Native.Nat.{ℕ, _+_, _*_, _<_}
-use native.Mathlib.Omega.{arith}
 use lib.ListN.{length}
 use borrow.Author.Tests.{lt-ltb, eq-eqb}
 use denote.Ref.{RefT}
-use Rattle.theory.specs.Lists.{_∈_, Ascending, select}
+use Rattle.theory.specs.Lists.{_∈_, Ascending}
 use Rattle.theory.specs.Paths.{FitsTail}
-use Rattle.theory.specs.States.{rule, enter}
-use Rattle.theory.proofs.Decide.{fitsTail}
+use Rattle.theory.specs.States.{root as rootOf, rule, enter}
 use Rattle.lent.specs.Pool.{startOf}
 use Rattle.lent.specs.Refusals.{firstOf}
 use Rattle.lent.specs.declared.Refusal.{Refusal}
 use Rattle.selector.specs.Tags.{Tags, stepMatches}
 use Rattle.typed.specs.declared.SelectorInputs.{SelectorInputs}
 use Rattle.typed.specs.Typed.{inputsTags, inputsRow}
-use Rattle.sheet.specs.Layout.{rulesIn}
 use Rattle.table.specs.Tables.{Table, selectorsOf, stampIn, statesIn, transitionsIn, matchedEnds, stateAt}
 use Rattle.table.specs.Entering as Memory
 use Rattle.table.specs.Entering.{transitionFits}
@@ -37,10 +34,11 @@ use Rattle.covered.specs.Covered.{Covered, Reached, After, Numbered}
 use Rattle.covered.specs.Covered.Covered.{built, entered}
 use Rattle.covered.specs.Covered.Reached.{root, child, later}
 use Rattle.covered.specs.Covered.After.{more}
-use Rattle.covered.proofs.Growing.{built-word}
-use Rattle.covered.proofs.Accepted.{build-accepted}
+use Rattle.covered.specs.Rooms.{heldIn, including}
+use Rattle.covered.proofs.Rooms.{held-built, held-entered}
 use Rattle.covered.proofs.Reached.{reached-covered, reached-is}
-use Rattle.promises.proofs.Listed.{listed-exactly, listed-ascending, listed-is, equal-subjects-one-child, kept-found, child-state, next-number, covered-in-shape}
+use Rattle.promises.specs.Paths.{rulesOn}
+use Rattle.promises.proofs.Listed.{count-is-length, listed-exactly, listed-ascending, listed-is, equal-subjects-one-child, kept-found, child-state, next-number, covered-in-shape}
 
 module _ {w : List ℕ} where
   -- ---- `build`, where it answers Built
@@ -53,11 +51,12 @@ module _ {w : List ℕ} where
     pub build-reaches : Reached w t′ 0 stamp []
     build-reaches = let (v, e) = built-is b in subst (λ (u : Table). Reached w u 0 stamp []) (sym e) (root t stamp ranking (eight, v))
 
+    -- the table holds the root alone:
+    pub build-holds-root : heldIn t′ ≡ rootOf (selectorsOf w) ∷ []
+    build-holds-root = let (v, e) = built-is b in ap heldIn e ∙ held-built w t stamp ranking (eight, v)
+
     pub build-one-state : statesIn (t′ .head) ≡ 1
-    build-one-state =
-        let (v, e) = built-is b in
-        let a = build-accepted w ranking (t .states) (t .cursors) v in
-        ap (λ (u : Table). statesIn (u .head)) e ∙ built-word w t stamp ranking (a .shape) eight (a .ranks) (a .rows) (a .room) 2 (omega arith)
+    build-one-state = count-is-length t′ ∙ ap length build-holds-root
 
   -- where it refuses, of whatever sheet, nothing is disturbed
   module _ {v : List ℕ} {t t′ : Table} {stamp ranking : ℕ} {y : Refusal} (b : Build v stamp ranking t (Building.Refused y) t′) where
@@ -110,6 +109,11 @@ module _ {w : List ℕ} where
         → stateAt t′ (s .number) ≡ enter stepMatches (selectorsOf w) (stateAt t number) (inputsTags x)
     enter-state c u = let (v, n, _, e) = entered-is u in rw (n, e) (child-state c number stamp x v)
 
+    -- the table holds the states of before and that one, unless it was held already,
+    pub enter-holds-child : {s : MatchState} → Covered w t → Enter w t number stamp (inputsRow x) (Entering.Entered s) t′
+        → heldIn t′ ≡ including (heldIn t) (enter stepMatches (selectorsOf w) (stateAt t number) (inputsTags x))
+    enter-holds-child c u = let (v, _, _, e) = entered-is u in ap heldIn e ∙ held-entered w c number stamp x v
+
     -- and it has the number of an equal state held before or, where none is equal, the next one
     pub enter-numbers : {s : MatchState} → Covered w t → Enter w t number stamp (inputsRow x) (Entering.Entered s) t′ → Numbered t t′ (s .number)
     enter-numbers c u = let (v, n, _, e) = entered-is u in rw (n, e) (next-number c number stamp x v)
@@ -158,7 +162,7 @@ module _ {w : List ℕ} where
       rules-ascending = rw given (listed-ascending p)
 
       -- of the sheet's rules those that pass the test, in order
-      pub rules-given : part .now ≡ select (λ k. fitsTail stepMatches (rule (selectorsOf w) k) path) (rulesIn w)
+      pub rules-given : part .now ≡ rulesOn w path
       rules-given = given ∙ listed-is p
 
       -- "handed back as the part of the lent buffer that holds it": it stands where they stand in the buffer

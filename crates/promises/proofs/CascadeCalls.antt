@@ -37,8 +37,9 @@ use Rattle.cascade.specs.Answers.{channelsTold}
 use Rattle.cascade.specs.declared.Channels.{Channels}
 use Rattle.covered.specs.Covered.{Covered, Reached}
 use Rattle.covered.specs.Covered.After.{none}
+use Rattle.promises.specs.Paths.{rulesOn}
 use Rattle.promises.proofs.Calls.{enter-after, reached-accepted}
-use Rattle.promises.proofs.Winning.{rulesOn, built-ranking, ranking-kept, winner-of-path}
+use Rattle.promises.proofs.Winning.{built-ranking, ranking-kept, winner-of-path}
 use Rattle.promises.proofs.Changing.{changed-of-paths, same-paths-same-changes}
 
 -- ---- the ranking, by the contracts of `build` and `enter`

@@ -17,15 +17,15 @@ use Rattle.selector.specs.Tags.{Tags}
 use Rattle.made.specs.Made.{Made}
 use Rattle.table.specs.Tables.{Table, rankingIn, statesIn}
 use Rattle.winners.specs.Winners.{Place, keyAt, holdsAt, placesFor, winningKeyOf, entryOf}
-use Rattle.channels.specs.Channels.{channelsOf}
+use Rattle.channels.specs.Channels.{channelsOf, Named}
 use Rattle.channels.proofs.Union.{channel-named}
 use Rattle.changes.specs.Changes.{changedOf}
 use Rattle.looking.specs.Calls.{rulesAt, winnerIn, entryIn}
 use Rattle.cascade.specs.Calls.{changedIn}
 use Rattle.covered.specs.Covered.{Covered, Reached}
+use Rattle.promises.specs.Paths.{rulesOn}
 use Rattle.promises.proofs.Listed.{listed-is}
 use Rattle.promises.proofs.Places.{Within, places-told, places-within, listed-below}
-use Rattle.promises.proofs.Winning.{rulesOn}
 
 -- what is read off the mended answers is what is read off each, mended
 mend-each : {A B : Type 0} (ids : List ℕ) (f : A → ℕ → B) (old new : ℕ → A) (p : ℕ) → mend ids (λ q. f (old q) q) (λ q. f (new q) q) p ≡ f (mend ids old new p) p
@@ -53,7 +53,7 @@ module _ (w : List ℕ) (t : Table) (old new : ℕ) where
 
   -- a channel is called for exactly if the mask of some changed property has its bit
   pub channel-exactly : (masks : List ℕ) (b : ℕ)
-      → (bit (channelsOf masks (changedIn w t old new)) b ≡ true) ↔ ((p : ℕ) × (p ∈ changedIn w t old new) × (bit (getD masks p 0) b ≡ true))
+      → (bit (channelsOf masks (changedIn w t old new)) b ≡ true) ↔ Named masks (changedIn w t old new) b
   channel-exactly masks b = channel-named masks (changedIn w t old new) b
 
   -- states that list the same rules: nothing changes

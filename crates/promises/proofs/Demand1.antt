@@ -7,11 +7,12 @@
 -- (Ladders.antt, `decided`, `one-number`). Each test is defined in the specs/ of its crate, under its line of 01's table, and each size in theory's specs/Sizes; w is a sheet's words, t a table's.
 -- Demand1Rest.antt has the calls for which 01's "Order" has no line. Refusal 10 is of house records, which no call here takes: `walkOf` (house, specs/House) says when,
 -- and `pieces-print` (walked) that it is printed. The calls that tell a verdict (`admit`, `joining`, `matcher::states`) have the verdict itself for their contract.
-use mathlib.Core.Path.{_≡_, refl, _∙_}
+use mathlib.Core.Path.{_≡_, refl, ap, _∙_}
 use mathlib.Core.Logic.{_↔_, _⊎_}
 use mathlib.Core.Bool.{true, not}
 use mathlib.Core.List.{List, [], _∷_, _++_}
-use Prim.Native.Nat.{ℕ, suc, _+_, _<_}
+use Prim.Native.Nat.{ℕ, suc, _+_, _*_, _<_}
+use native.Mathlib.Nat.{add-zero}
 use lib.ListN.{length, getElem?}
 use lib.Dec.{ltb}
 use denote.Ref.{RefT}
@@ -66,7 +67,7 @@ use Rattle.cascade.specs.Calls.{changedIn, pairVerdict, changedVerdict, resourc
 use Rattle.cascade.specs.Answers.{channelsTold}
 use Rattle.cascade.specs.declared.Channels.{Channels}
 use Rattle.promises.specs.Refusing.{First, None, InTurn, Refusing, Guarding}
-use Rattle.promises.proofs.Ladders.{refusing, guarding, emptied, nested, yes-no-accepts, kind-accepts, plain-accepts, resource-accepts, entry-accepts, combinator-accepts, there-accepts, winner-accepts, diagnosis-accepts}
+use Rattle.promises.proofs.Ladders.{refusing, otherwise, guarding, nested, yes-no-accepts, kind-accepts, plain-accepts, resource-accepts, entry-accepts, combinator-accepts, there-accepts, winner-accepts, diagnosis-accepts}
 
 -- ---- "entering 11, 4, 2, 1, 5"
 
@@ -93,9 +94,11 @@ module _ (w : List ℕ) (t : Table) (number stamp : ℕ) where
   matching-part-refuses c = refusing refl (_, refl) (c .answer)
 
   -- it has no number to tell, and answers a part of the buffer: an empty one, at its front, where `matching_part` refuses
-  pub matching-rules-refuses : {whole part : RefT (List ℕ)} → Rules w t number stamp whole part → (n : ℕ) → First ofState n → part .now ≡ []
+  pub matching-rules-refuses : {whole part : RefT (List ℕ)} → Rules w t number stamp whole part → (n : ℕ) → First ofState n → (part .now ≡ []) × (part .ptr ≡ whole .ptr)
   unfolding stateVerdict
-  matching-rules-refuses c n x = emptied refl _ n x (c .numbers)
+  matching-rules-refuses {whole} c n x =
+      let front = c .place ∙ ap (λ (k : ℕ). whole .ptr .1 + 4 * k) (otherwise refl _ 0 n x) ∙ add-zero (whole .ptr .1) in
+      (c .numbers ∙ otherwise refl _ [] n x, λ i. (c .block i, front i))
 
   module _ (property : ℕ) where
     pub winning-source-for-id-refuses : (r : Winning) → winningTold r ≡ answered (stateVerdict w t number stamp) (winnerTold w (winnerIn w t number property)) → Refusing ofState (winningTold r)

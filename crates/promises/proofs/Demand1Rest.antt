@@ -1,6 +1,6 @@
 -- Demand 1 of the calls for which 01's "Order" has no line: their checks have the numbers of 01's table, in the order of its nearest line. See Demand1.antt.
 -- Assumes nothing.
-use mathlib.Core.Path.{_≡_, refl}
+use mathlib.Core.Path.{_≡_, refl, _∙_}
 use mathlib.Core.Bool.{not}
 use mathlib.Core.List.{List, [], _∷_}
 use Prim.Native.Nat.{ℕ}
@@ -49,7 +49,7 @@ use Rattle.changeset.specs.Sets.{changingTold, Lists, setOf, unionOf, setVerdic
 use Rattle.changeset.specs.declared.Changing.{Changing}
 use Rattle.changeset.specs.declared.Emptiness as SetEmptiness
 use Rattle.promises.specs.Refusing.{First, Refusing, Guarding}
-use Rattle.promises.proofs.Ladders.{refusing, guarding, emptied, yes-no-accepts, place-accepts, kind-accepts, plain-accepts, resource-accepts, entry-accepts, there-accepts}
+use Rattle.promises.proofs.Ladders.{refusing, otherwise, guarding, yes-no-accepts, place-accepts, kind-accepts, plain-accepts, resource-accepts, entry-accepts, there-accepts}
 
 -- ---- a sheet: 11. The empty one: 11 if there is no room for it
 
@@ -132,10 +132,10 @@ module _ (properties kinds numbers : List ℕ) (n : ℕ) where
   unfolding styleVerdict
   style-len-refuses r e = refusing refl (_, refl) e
 
-  -- it answers the front of the caller's list: nothing where `len` refuses
-  pub property-ids-refuses : {whole part : RefT (List ℕ)} → Ids properties kinds numbers n whole part → (k : ℕ) → First ofStyle k → part .now ≡ []
+  -- it answers the front of the caller's list: an empty one where `len` refuses
+  pub property-ids-refuses : {whole part : RefT (List ℕ)} → Ids properties kinds numbers n whole part → (k : ℕ) → First ofStyle k → (part .now ≡ []) × (part .ptr ≡ whole .ptr)
   unfolding styleVerdict
-  property-ids-refuses c k x = emptied refl _ k x (c .ids)
+  property-ids-refuses c k x = (c .ids ∙ otherwise refl _ [] k x, c .place)
 
   module _ (property : ℕ) where
     pub style-contains-refuses : (r : Containing) → containingTold r ≡ containingOf properties kinds numbers n property → Refusing ofStyle (containingTold r)

@@ -28,7 +28,7 @@ use Rattle.laid.proofs.Emptied.{zero-count, read-emptied, shape-emptied}
 use Rattle.given.specs.Given.{selectorGiven, entriesGiven, ruleGiven, rulesGiven}
 use Rattle.given.specs.Pushing.{emptyVerdict, rulesOver, ruleChecks, groupVerdict}
 use Rattle.made.specs.Made.{Halves, Made, group}
-use Rattle.made.proofs.Distinct.{added}
+use Rattle.made.specs.Pushed.{added}
 use Rattle.made.proofs.Pushed.{group-pushed}
 use Rattle.made.proofs.Calls.{some-made}
 use Rattle.table.specs.Tables.{Table, selectorsOf}

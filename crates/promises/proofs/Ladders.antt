@@ -106,17 +106,17 @@ module _ {checks : List Check} (p : positive checks ≡ true) where
           by true f = let z : n ∷ [] ≡ 0 ∷ l = sym q ∙ e ∙ rw f a in absurd (h (ap (λ (k : List ℕ). getD k 0 0) z))
           by false f = let z : n ∷ [] ≡ firstOf checks ∷ [] = sym q ∙ e ∙ rw f in sym (ap (λ (k : List ℕ). getD k 0 0) z)
 
-  -- and where it leaves the memory before unless that number is 0, a refusal writes nothing
+  -- what a call leaves or answers where that number is not 0, by its contract
+  pub otherwise : {A : Type 0} (accepted refused : A) (n : ℕ) → First checks n → cond (eqb (firstOf checks) 0) accepted refused ≡ refused
+  otherwise accepted refused n x = rw (first-number checks n x, ne-eqb n 0 (first-positive checks n p x))
+
+  -- so where it leaves the memory before, a refusal writes nothing
   pub guarding : {A : Type 0} (pushed : A) {before after : A} {told answer : List ℕ} → Accepts answer → told ≡ answered (firstOf checks) answer
       → after ≡ cond (eqb (firstOf checks) 0) pushed before → Guarding checks told before after
   guarding pushed a e m = record {
     answer = refusing a e;
-    unwritten = λ n x. m ∙ rw (first-number checks n x, ne-eqb n 0 (first-positive checks n p x));
+    unwritten = λ n x. m ∙ otherwise pushed _ n x;
   }
-
-  -- an answer that is a part of a list is empty where another call refuses
-  pub emptied : (all : List ℕ) {part : List ℕ} (n : ℕ) → First checks n → part ≡ cond (eqb (firstOf checks) 0) all [] → part ≡ []
-  emptied all n x e = e ∙ rw (first-number checks n x, ne-eqb n 0 (first-positive checks n p x))
 
 -- ---- one list of checks after another: the second counts where the first gives nothing
 

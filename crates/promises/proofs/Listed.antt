@@ -11,15 +11,14 @@ use mathlib.Core.List.{List, map}
 use Prim.Native.Nat.{ℕ, _≤_, _<_}
 use native.Mathlib.Omega.{arith}
 use lib.ListN.{length, replicate}
-use Rattle.theory.specs.Lists.{_∈_, Ascending, select}
+use Rattle.theory.specs.Lists.{_∈_, Ascending}
 use Rattle.theory.specs.Paths.{FitsTail}
 use Rattle.theory.specs.States.{rule, enter}
-use Rattle.theory.proofs.Decide.{fitsTail}
+use Rattle.theory.proofs.Spreads.{length-spread}
 use Rattle.lent.specs.Pool.{startOf, listAt}
 use Rattle.selector.specs.Tags.{Tags, stepMatches}
 use Rattle.typed.specs.declared.SelectorInputs.{SelectorInputs}
 use Rattle.typed.specs.Typed.{inputsTags, inputsRow}
-use Rattle.sheet.specs.Layout.{rulesIn}
 use Rattle.made.specs.Made.{Made}
 use Rattle.made.proofs.Promises.{made-shaped}
 use Rattle.table.specs.Tables.{Table, selectorsOf, statesIn, transitionsIn, matchedEnds, matchedAt, stateAt}
@@ -28,13 +27,19 @@ use Rattle.table.specs.Calls.{broken}
 use Rattle.covered.specs.Covered.{Builds, Enters, Covered, Reached, After, Numbered}
 use Rattle.covered.specs.Covered.Numbered.{reused, next}
 use Rattle.covered.specs.Covered.Reached.{root}
-use Rattle.covered.specs.Rooms.{Roomy, Proper, verdictsAlong, tableAlong, numberAlong}
+use Rattle.covered.specs.Rooms.{heldIn, Roomy, Proper, verdictsAlong, tableAlong, numberAlong}
 use Rattle.covered.proofs.Known.{below}
 use Rattle.covered.proofs.Keeps.{states-stay}
 use Rattle.covered.proofs.Reached as States
 use Rattle.covered.proofs.Promises as Left
 use Rattle.covered.proofs.Rooms.{rooms-build, rooms-suffice}
+use Rattle.promises.specs.Paths.{rulesOn}
 use Rattle.promises.proofs.Along.{along-reached, reached-proper}
+
+-- 01, "How much each contract says": the state count is "the length of a defined list", of the states held. What that list is: Calls.antt, `build-holds-root`,
+-- `enter-holds-child`
+pub count-is-length : (t : Table) → statesIn (t .head) ≡ length (heldIn t)
+count-is-length t = sym (length-spread (stateAt t) 0 (statesIn (t .head)))
 
 module _ {w : List ℕ} where
   -- ---- "for a state reached since from the root by a path of one or more elements"; the root, reached by none, lists nothing
@@ -49,7 +54,7 @@ module _ {w : List ℕ} where
     listed-ascending = States.listed-ascending w r
 
     -- so sheet and path determine the list: of the sheet's rules those that pass the test, in order
-    pub listed-is : stateAt t number .matched ≡ select (λ k. fitsTail stepMatches (rule (selectorsOf w) k) path) (rulesIn w)
+    pub listed-is : stateAt t number .matched ≡ rulesOn w path
     listed-is = States.listed-is w r
 
   -- states of one table that have the same cursors and rules are one state

@@ -20,8 +20,7 @@ use Rattle.lent.proofs.Refusals.{first-clear}
 use Rattle.selector.specs.declared.Specificity.{Specificity}
 use Rattle.selector.specs.Tags.{asSets}
 use Rattle.selector.specs.declared.Weighing.the-variants.{Weighs}
-use Rattle.selector.specs.Weighing.{isSet, countsOf, Summed, weighingTold, weightTold}
-use Rattle.selector.proofs.Saturation.{Unsaturated}
+use Rattle.selector.specs.Weighing.{isSet, countsOf, Summed, Unsaturated, weighingTold, weightTold}
 use Rattle.typed.specs.Typed.{typeOf, partOf, classNumber, pseudoNumber, over}
 use Rattle.steps.specs.declared.SelectorStep.{SelectorStep}
 use Rattle.steps.specs.Steps.{stepTags}

@@ -7,7 +7,7 @@ use native.Mathlib.Omega.{arith}
 use lib.ListN.{length}
 use Rattle.theory.specs.Lists.{contained, inserted, sort, select}
 use Rattle.theory.specs.States.{Sheet, State, rule, enter, run}
-use Rattle.theory.proofs.Decide.{fitsTail}
+use Rattle.theory.specs.Tails.{fitsTail}
 use Rattle.selector.specs.Tags.{Tags, tagOk, stepMatches}
 use Rattle.table.specs.Tables.{Table, selectorsOf, stateAt}
 use Rattle.table.proofs.Selectors.{length-selectors}

@@ -21,7 +21,7 @@ use Rattle.given.specs.Given.{styleGiven, Group, given, selectorGiven, entriesG
 use Rattle.given.specs.Pushing.{stylePushVerdict, pushedStyle, rulesOver, ruleChecks, groupVerdict, pushedGroup}
 use Rattle.given.proofs.Accepted.{style-accepted}
 use Rattle.made.specs.Made.{Halves, Made, style, group}
-use Rattle.made.proofs.Distinct.{added}
+use Rattle.made.specs.Pushed.{added}
 use Rattle.made.proofs.Accepting.{style-ready}
 use Rattle.made.proofs.Pushed.{style-pushed, group-pushed}
 use Rattle.made.proofs.Calls.{some-made}

@@ -9,16 +9,13 @@ use Prim.Native.Nat.{ℕ, _≤_}
 use native.Mathlib.Omega.{arith}
 use lib.ListN.{length, getElem?}
 use lib.Dec.{T}
-use Rattle.theory.specs.Lists.{select}
-use Rattle.theory.specs.States.{State, rule}
+use Rattle.theory.specs.States.{State}
 use Rattle.theory.specs.Cascade.{Wins}
-use Rattle.theory.proofs.Decide.{fitsTail}
 use Rattle.theory.proofs.Winners.{winner-wins, winner-none}
-use Rattle.selector.specs.Tags.{Tags, stepMatches}
+use Rattle.selector.specs.Tags.{Tags}
 use Rattle.typed.specs.declared.SelectorInputs.{SelectorInputs}
 use Rattle.typed.specs.Typed.{inputsTags}
-use Rattle.sheet.specs.Layout.{rulesIn}
-use Rattle.table.specs.Tables.{Table, selectorsOf, rankingIn}
+use Rattle.table.specs.Tables.{Table, rankingIn}
 use Rattle.table.specs.Entering.{built}
 use Rattle.winners.specs.Winners.{Place, keyAt, holdsAt, placesFor, winnerOf, entryOf}
 use Rattle.looking.specs.Calls.{rulesAt, winnerIn, entryIn}
@@ -30,12 +27,9 @@ use Rattle.covered.proofs.Accepted.{build-accepted}
 use Rattle.covered.proofs.Growing.{built-word}
 use Rattle.covered.proofs.Promises as Left
 use Rattle.covered.proofs.Reached.{covered-sound, reached-covered}
+use Rattle.promises.specs.Paths.{rulesOn}
 use Rattle.promises.proofs.Along.{along-after}
 use Rattle.promises.proofs.Listed.{listed-is, same-path-same-lists, fresh-builds, fresh-enters, fresh-same-rules}
-
--- the rules that a path has: of the sheet's those whose selector fits a tail of it, in order (`listed-is`)
-abbrev pub rulesOn : List ℕ → List Tags → List ℕ
-rulesOn w path = select (λ k. fitsTail stepMatches (rule (selectorsOf w) k) path) (rulesIn w)
 
 module _ (w : List ℕ) where
   -- ---- the table's ranking picks the weight: it is the one that the table was last built with,

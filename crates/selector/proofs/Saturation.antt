@@ -7,14 +7,14 @@ use Prim.Native.Nat.{ℕ, zero, suc, _+_, _*_, _≤_, _<_}
 use native.Mathlib.Nat.{zero-add}
 use native.Mathlib.Omega.{arith}
 use Rattle.theory.specs.Lists.{spread, total}
-use Rattle.theory.specs.Weight.{Counts, weightOf}
+use Rattle.theory.specs.Weight.{Counts}
 use Rattle.theory.proofs.Lists.{sort-length}
 use Rattle.lent.proofs.All.{all-at}
 use Rattle.selector.specs.declared.Specificity.{Specificity}
 use Rattle.selector.specs.Tags.{Tags}
 use Rattle.selector.specs.Rows.{rowAt, stepAt}
 use Rattle.selector.specs.Checks.{rowFits, selectorVerdict}
-use Rattle.selector.specs.Weighing.{isSet, countsOf, countsIn, Counted}
+use Rattle.selector.specs.Weighing.{isSet, countsOf, countsIn, Counted, Unsaturated}
 use Rattle.selector.proofs.CheckLaws.{selector-passed}
 use Rattle.selector.proofs.WeighLaws.{total-next, pseudos-few, classes-few}
 
@@ -50,15 +50,6 @@ counted-few c = record {
 total-few : (g : Counts → ℕ) (f : ℕ → Counts) (k n : ℕ) → ((i : ℕ) → i < n → g (f (k + i)) ≤ 8) → total g (spread f k n) ≤ 8 * n
 total-few g f k zero h = unfold total in omega arith
 total-few g f k (suc n) h = omega (arith, total-next g f k n, total-few g f k n (λ i l. h i (omega arith)), h n (omega arith))
-
--- Each sum, and with them each number of both weights, stays far below it
-pub record Unsaturated (l : List Counts) : Type 0 where
-  pub pseudos : weightOf 0 l .first ≤ 64
-  pub classes : weightOf 0 l .second ≤ 64
-  pub parts : weightOf 0 l .third ≤ 64
-  pub types : weightOf 0 l .fourth ≤ 64
-  pub ids : weightOf 1 l .first ≤ 128
-  pub tags : weightOf 1 l .second ≤ 128
 
 pub few-unsaturated : (f : ℕ → Counts) (k n : ℕ) → n ≤ 8 → ((i : ℕ) → i < n → Few (f (k + i))) → Unsaturated (spread f k n)
 few-unsaturated f k n h each =

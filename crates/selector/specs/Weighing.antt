@@ -48,6 +48,15 @@ pub record Summed (l : List Counts) (s : Specificity) : Type 0 where
   pub parts-few : s .2 ≤ 64
   pub types-few : s .3 ≤ 64
 
+-- 01: "Prove that the Rust's saturation is never met." The Rust saturates at 4,294,967,295; each number of both weights is far below it
+pub record Unsaturated (l : List Counts) : Type 0 where
+  pub pseudos : weightOf 0 l .first ≤ 64
+  pub classes : weightOf 0 l .second ≤ 64
+  pub parts : weightOf 0 l .third ≤ 64
+  pub types : weightOf 0 l .fourth ≤ 64
+  pub ids : weightOf 1 l .first ≤ 128
+  pub tags : weightOf 1 l .second ≤ 128
+
 -- The answer as numbers: 0 and the four numbers of the weight; a refusal's own number
 abbrev pub weighingTold : Weighing → List ℕ
 weighingTold (Weighs w) = 0 ∷ w .0 ∷ w .1 ∷ w .2 ∷ w .3 ∷ []

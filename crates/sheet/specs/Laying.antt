@@ -1,6 +1,7 @@
 -- The words after direct styles and rules have been added to those of a sheet. Assumes nothing.
+use mathlib.Core.Logic.{_⊎_}
 use mathlib.Core.List.{List, [], _∷_, _++_, map, flatMap}
-use Prim.Native.Nat.{ℕ, _+_, _-_, _*_}
+use Prim.Native.Nat.{ℕ, _+_, _*_, _≤_, _<_}
 use lib.ListN.{length, replicate, take}
 use lib.Seq.{sets}
 use Rattle.theory.specs.Paths.{Comb, child, descendant, Part, Selector}
@@ -107,6 +108,23 @@ lay styles rules next w =
     (layStyles (Layout.stylesIn w) (Layout.styleEntriesIn w) styles (layRules (Layout.rulesIn w) (Layout.stepsIn w) (Layout.entriesIn w) rules w))
     0
     (countWords styles rules next w)
+
+-- Those words, 01: "An accepted call leaves what stands past its answer in a lent buffer". The word at i stands before n words that are put at `at`, or after them:
+abbrev pub Beside : ℕ → ℕ → ℕ → Type 0
+Beside at n i = (i < at) ⊎ (at + n ≤ i)
+
+-- it is no count, and stands in no row and no entry that is added
+pub record Free (w : List ℕ) (styles : List Style) (rules : List Rule) (i : ℕ) : Type 0 where
+  pub counts : 7 ≤ i
+  pub rule-rows : Beside (Layout.RULE-ORIGIN + Layout.RULE-WORDS * Layout.rulesIn w) (Layout.RULE-WORDS * length rules) i
+  pub step-rows : Beside (Layout.stepPlace (Layout.stepsIn w)) (Layout.STEP-WORDS * length (stepsOf rules)) i
+  pub properties : Beside (Layout.ENTRY + Layout.entriesIn w) (length (ruleEntries rules)) i
+  pub kinds : Beside (Layout.ENTRY + Layout.ENTRY-ROOM + Layout.entriesIn w) (length (ruleEntries rules)) i
+  pub numbers : Beside (Layout.ENTRY + 2 * Layout.ENTRY-ROOM + Layout.entriesIn w) (length (ruleEntries rules)) i
+  pub style-rows : Beside (Layout.STYLE-ORIGIN + Layout.STYLE-WORDS * Layout.stylesIn w) (Layout.STYLE-WORDS * length styles) i
+  pub style-properties : Beside (Layout.STYLE-ENTRY + Layout.styleEntriesIn w) (length (styleEntries styles)) i
+  pub style-kinds : Beside (Layout.STYLE-ENTRY + Layout.STYLE-ENTRY-ROOM + Layout.styleEntriesIn w) (length (styleEntries styles)) i
+  pub style-numbers : Beside (Layout.STYLE-ENTRY + 2 * Layout.STYLE-ENTRY-ROOM + Layout.styleEntriesIn w) (length (styleEntries styles)) i
 
 -- The empty sheet: its counts are 0
 unfoldable pub emptied : List ℕ → List ℕ

@@ -9,7 +9,8 @@ use lib.ListN.{length}
 use lib.Dec.{T}
 use Rattle.theory.specs.Paths.{Comb, child, descendant, Selector, Goes, done, here, skip, FitsTail}
 use Rattle.theory.specs.States.{descends}
-use Rattle.theory.proofs.Paths.{free, tail-is}
+use Rattle.theory.specs.Tails.{free, goes, fitsTail}
+use Rattle.theory.proofs.Paths.{tail-is}
 
 pub and-T : (a b : Bool) → T (a && b) ↔ (T a × T b)
 and-T true b = (λ h. (tt, h), λ h. h .1)
@@ -24,34 +25,23 @@ descends-T child = (λ h. absurd h, λ h. absurd (let z : _≡_ {A = ℕ} 0 1 = 
 descends-T descendant = (λ h. refl, λ h. tt)
 
 module _ {Step Subject : Type 0} (ok : Step → Subject → Bool) where
-  abbrev goes : Selector Step → List Subject → Bool
-  goes [] [] = true
-  goes [] (x ∷ path) = false
-  goes (p ∷ sel) [] = false
-  goes (p ∷ sel) (x ∷ path) = (ok (p .step) x && goes sel path) || (descends (p .comb) && goes (p ∷ sel) path)
-
-  -- The selector has steps, and fits a tail of the path
-  abbrev pub fitsTail : Selector Step → List Subject → Bool
-  fitsTail [] path = false
-  fitsTail (p ∷ sel) path = goes (free p ∷ sel) path
-
-  goes-to : {sel : Selector Step} {path : List Subject} → Goes ok sel path → T (goes sel path)
+  goes-to : {sel : Selector Step} {path : List Subject} → Goes ok sel path → T (goes ok sel path)
   goes-to done = tt
   goes-to (here {p = p} {sel = sel} {x = x} {path = path} o g) =
-      or-T (ok (p .step) x && goes sel path) (descends (p .comb) && goes (p ∷ sel) path) .1 (inl (and-T (ok (p .step) x) (goes sel path) .1 (o, goes-to g)))
+      or-T (ok (p .step) x && goes ok sel path) (descends (p .comb) && goes ok (p ∷ sel) path) .1 (inl (and-T (ok (p .step) x) (goes ok sel path) .1 (o, goes-to g)))
   goes-to (skip {p = p} {sel = sel} {x = x} {path = path} e g) =
-      or-T (ok (p .step) x && goes sel path) (descends (p .comb) && goes (p ∷ sel) path) .1 (inr (and-T (descends (p .comb)) (goes (p ∷ sel) path) .1 (descends-T (p .comb) .1 e, goes-to g)))
+      or-T (ok (p .step) x && goes ok sel path) (descends (p .comb) && goes ok (p ∷ sel) path) .1 (inr (and-T (descends (p .comb)) (goes ok (p ∷ sel) path) .1 (descends-T (p .comb) .1 e, goes-to g)))
 
-  goes-from : (sel : Selector Step) (path : List Subject) → T (goes sel path) → Goes ok sel path
+  goes-from : (sel : Selector Step) (path : List Subject) → T (goes ok sel path) → Goes ok sel path
   goes-from [] [] t = done
   goes-from [] (x ∷ path) t = absurd t
   goes-from (p ∷ sel) [] t = absurd t
-  goes-from (p ∷ sel) (x ∷ path) t = elim (or-T (ok (p .step) x && goes sel path) (descends (p .comb) && goes (p ∷ sel) path) .0 t) [
-    | inl h ↦ let (o, g) = and-T (ok (p .step) x) (goes sel path) .0 h in here o (goes-from sel path g)
-    | inr h ↦ let (e, g) = and-T (descends (p .comb)) (goes (p ∷ sel) path) .0 h in skip (descends-T (p .comb) .0 e) (goes-from (p ∷ sel) path g)
+  goes-from (p ∷ sel) (x ∷ path) t = elim (or-T (ok (p .step) x && goes ok sel path) (descends (p .comb) && goes ok (p ∷ sel) path) .0 t) [
+    | inl h ↦ let (o, g) = and-T (ok (p .step) x) (goes ok sel path) .0 h in here o (goes-from sel path g)
+    | inr h ↦ let (e, g) = and-T (descends (p .comb)) (goes ok (p ∷ sel) path) .0 h in skip (descends-T (p .comb) .0 e) (goes-from (p ∷ sel) path g)
   ]
 
   -- The test passes exactly if the selector has steps and fits a tail of the path
-  pub fitsTail-T : (sel : Selector Step) (path : List Subject) → T (fitsTail sel path) ↔ ((0 < length sel) × FitsTail ok sel path)
+  pub fitsTail-T : (sel : Selector Step) (path : List Subject) → T (fitsTail ok sel path) ↔ ((0 < length sel) × FitsTail ok sel path)
   fitsTail-T [] path = (λ t. absurd t, λ h. absurd (omega arith))
   fitsTail-T (p ∷ sel) path = (λ t. (omega arith, tail-is ok p sel path .1 (goes-from (free p ∷ sel) path t)), λ h. goes-to (tail-is ok p sel path .0 (h .1)))

@@ -10,6 +10,7 @@ use lib.ListN.{take, drop, length, length-append}
 use lib.Seq.{drop-nil, take-nil, take-all, take-append-le, take-length}
 use lib.Dec.{T}
 use Rattle.theory.specs.Paths.{Comb, child, descendant, Part, Selector, Goes, done, here, skip, Fits, FitsTail}
+use Rattle.theory.specs.Tails.{free}
 
 pub or-iff : {A B C D : Type 0} → A ↔ C → B ↔ D → (A ⊎ B) ↔ (C ⊎ D)
 or-iff f g = (elim [ inl a ↦ inl (f .0 a) | inr b ↦ inr (g .0 b) ], elim [ inl c ↦ inl (f .1 c) | inr d ↦ inr (g .1 d) ])
@@ -48,10 +49,6 @@ module _ {Subject : Type 0} where
   upto-cons : (c : Comb) (F G : List Subject → Type 0) (y : Subject) → ((q : List Subject) → F q → G (y ∷ q)) → (path : List Subject) → Upto c F path → Upto c G (y ∷ path)
   upto-cons child F G y f path u = f path u
   upto-cons descendant F G y f path u = (suc (u .0), f (take (u .0) path) (u .1))
-
--- A step as a descendant
-abbrev pub free : {Step : Type 0} → Part Step → Part Step
-free p = record { comb = descendant; step = p .step }
 
 module _ {Step Subject : Type 0} (ok : Step → Subject → Bool) where
   -- ---- the last step of steps that go

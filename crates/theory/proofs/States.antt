@@ -12,10 +12,11 @@ use Rattle.theory.specs.Paths.{descendant, Part, Selector, FitsTail}
 use Rattle.theory.specs.Level3.{Represents}
 use Rattle.theory.specs.Reading.{chainOf, elementOf}
 use Rattle.theory.specs.States.{Sheet, rule, Small, cursor, State, root, leavesOf, listsOf, enter, run}
+use Rattle.theory.specs.Tails.{fitsTail}
 use Rattle.theory.proofs.Lists.{append-in, sort-in, sort-ascending, ascending-select, snoc-induction}
 use Rattle.theory.proofs.Paths.{fits-nil}
 use Rattle.theory.proofs.Level3.{represents-tail}
-use Rattle.theory.proofs.Decide.{fitsTail, fitsTail-T}
+use Rattle.theory.proofs.Decide.{fitsTail-T}
 use Rattle.theory.proofs.Steps.{Active, active-first, active-nil, active-snoc, fits-takes}
 use Rattle.theory.proofs.Cursors.{starts-ascending, root-in, cursors-in, leaves-cursor, lists-cursor, leaves-in, lists-in}
 

@@ -3,6 +3,7 @@ pub mod Lists
 pub mod Paths
 pub mod Level3
 pub mod States
+pub mod Tails
 pub mod Weight
 pub mod Reading
 pub mod Cascade

@@ -5,7 +5,8 @@ use mathlib.Core.List.{List}
 use Prim.Native.Nat.{ℕ, _+_, _-_, _<_}
 use native.Mathlib.Omega.{arith}
 use Rattle.lent.specs.Pool.{startOf}
-use Rattle.selector.proofs.Saturation.{Unsaturated, counted-few, few-unsaturated}
+use Rattle.selector.specs.Weighing.{Unsaturated}
+use Rattle.selector.proofs.Saturation.{counted-few, few-unsaturated}
 use Rattle.sheet.specs.Layout.{rulesIn, stepsIn}
 use Rattle.sheet.specs.Sheets.{ruleAt, countsFor, ruleStepEnds}
 use Rattle.sheet.specs.Shape.{sheetShape}
