@@ -19,13 +19,13 @@ abbrev pub Enters : List ℕ → Table → ℕ → ℕ → SelectorInputs → Ty
 Enters w t number stamp x = enterVerdict w t number stamp (inputsRow x) ≡ 0
 
 module _ (w : List ℕ) where
-  -- "a table last built of it and since written only by accepted calls given it, in any order": entering is the only call that writes a table
-  -- that is built, and a refused call changes nothing
+  -- Demand 3: "a table built of it and written only by accepted calls, in any order". Build makes it anew, entering is the only other call that writes a table,
+  -- and a refused call changes nothing
   pub data Covered : Table → Type 0 where
     built : (t : Table) (stamp ranking : ℕ) → Builds w ranking t → Covered (Entering.built w stamp ranking t)
     entered : {t : Table} → Covered t → (number stamp : ℕ) (x : SelectorInputs) → Enters w t number stamp x → Covered (Entering.entered w t number (inputsRow x))
 
-  -- "a state reached since from the root by a path": its number and its stamp, as the calls answered
+  -- "a state reached by a path" from the root since the last build: its number and its stamp, as the calls answered
   pub data Reached : Table → ℕ → ℕ → List Tags → Type 0 where
     -- the root, by the empty path
     root : (t : Table) (stamp ranking : ℕ) → Builds w ranking t → Reached (Entering.built w stamp ranking t) 0 stamp []

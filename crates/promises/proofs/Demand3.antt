@@ -1,5 +1,5 @@
--- Demand 3, over lent memory, by the contracts of the calls alone. "For a sheet made by accepted pushes and unwritten since, and a table last built of it and
--- since written only by accepted calls given it, in any order" (`Called`): three clauses. That the sheet was made is asked for the third alone. Assumes nothing.
+-- Demand 3 (README), over lent memory, by the contracts of the calls alone. "For a made sheet, a table built of it and written only by accepted calls, in any
+-- order" (`Called`: last built of it, and the sheet unwritten since): three clauses. That the sheet was made is asked for the third alone. Assumes nothing.
 use mathlib.Core.Path.{_≡_, refl, sym, ap, _∙_}
 use mathlib.Core.Logic.{_≢_, _↔_}
 use mathlib.Core.Option.{Option, none, some}
@@ -60,7 +60,7 @@ module _ {w : List ℕ} {ranking : ℕ} where
   called-ranks (notBuilt c b) = ap (λ (t : Table). rankingIn (t .head)) (build-refused-is b) ∙ called-ranks c
   called-ranks (notEntered c u) = ap (λ (t : Table). rankingIn (t .head)) (enter-refused-is u) ∙ called-ranks c
 
-  -- ---- 1. "a state reached since from the root by a path lists exactly the rules that fit some tail of it, ascending, once each"
+  -- ---- 1. "a state reached by a path lists exactly the rules that fit some tail of it, ascending, once each". 01: a rule without steps is never listed
 
   -- `matching_rules`, by its contract
   module _ {t : Table} {number stamp : ℕ} {path : List Tags} (c : Called w ranking t number stamp path) {whole part : RefT (List ℕ)} (g : Rules w t number stamp whole part) where

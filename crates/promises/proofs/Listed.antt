@@ -1,9 +1,9 @@
 -- Demand 3, its first half: which rules a state lists, that a fresh table lists the same, and what accepted calls leave. Assumes nothing.
--- `Covered w t`: t is "a table last built of it and since written only by accepted calls given it, in any order"; a refused call writes nothing (Calls.antt).
--- `Reached w t number stamp path`: t is such a table, and these are the number and stamp of "a state reached since from the root by a path", with
--- any calls in between; "the path may be of any length".
--- `w` is the words of the sheet, the same at every call: "unwritten since". That it was "made by accepted pushes" is asked only where build has to
--- accept it: any sheet that build accepts will do.
+-- `Covered w t`: t is "a table built of it and written only by accepted calls, in any order"; a refused call writes nothing (Calls.antt).
+-- `Reached w t number stamp path`: t is such a table, and these are the number and stamp of "a state reached by a path" from the root, with
+-- any calls in between; 01: "A walk may be of any depth".
+-- `w` is the words of the sheet, the same at every call. That it was made by accepted pushes is asked only where build has to accept it: any sheet that
+-- build accepts will do.
 use mathlib.Core.Path.{_≡_, sym, _∙_}
 use mathlib.Core.Bool.{true, false}
 use mathlib.Core.Logic.{_↔_, inl, inr}
@@ -42,14 +42,14 @@ pub count-is-length : (t : Table) → statesIn (t .head) ≡ length (heldIn t)
 count-is-length t = sym (length-spread (stateAt t) 0 (statesIn (t .head)))
 
 module _ {w : List ℕ} where
-  -- ---- "for a state reached since from the root by a path of one or more elements"; the root, reached by none, lists nothing
+  -- ---- "a state reached by a path lists exactly the rules that fit some tail of it, ascending, once each"; the root, reached by the empty one, lists nothing
 
   module _ {t : Table} {number stamp : ℕ} {path : List Tags} (r : Reached w t number stamp path) where
-    -- "a rule is listed exactly if its selector isn't empty and fits some tail of that path, end to end"
+    -- a rule is listed exactly if its selector has steps and fits some tail of the path, end to end;
     pub listed-exactly : (k : ℕ) → (k ∈ stateAt t number .matched) ↔ ((0 < length (rule (selectorsOf w) k)) × FitsTail stepMatches (rule (selectorsOf w) k) path)
     listed-exactly = States.listed-fits w r
 
-    -- "the list ascends, each rule once"
+    -- the list ascends, each rule once
     pub listed-ascending : Ascending (stateAt t number .matched)
     listed-ascending = States.listed-ascending w r
 
@@ -61,7 +61,7 @@ module _ {w : List ℕ} where
   pub equal-lists-one-state : {t : Table} → Covered w t → (i j : ℕ) → i < statesIn (t .head) → j < statesIn (t .head) → stateAt t i ≡ stateAt t j → i ≡ j
   equal-lists-one-state c = States.covered-sound w c .known .distinct
 
-  -- ---- "A fresh table of the same sheet and ranking, with room, gives that path the same rules, whatever the numbers"
+  -- ---- "a fresh table gives that path the same rules .. whatever the numbers": one of the same sheet and ranking, with room
 
   -- in any two tables, whatever ranking, stamp, rooms and other calls; the cursors are the same as well
   pub same-path-same-lists : {t t′ : Table} {number number′ stamp stamp′ : ℕ} {path : List Tags} → Reached w t number stamp path → Reached w t′ number′ stamp′ path
@@ -82,7 +82,7 @@ module _ {w : List ℕ} where
       pub fresh-same-rules : stateAt (tableAlong w (built w stamp′ ranking fresh) 0 xs) (numberAlong w (built w stamp′ ranking fresh) 0 xs) ≡ stateAt t number
       fresh-same-rules = same-path-same-lists (along-reached xs (root fresh stamp′ ranking fresh-builds) fresh-enters) r
 
-  -- ---- ""With room": rooms, from the sheet and the path, that suffice; every entering of the path is then accepted"
+  -- ---- with room: rooms, from the sheet and the path, that suffice; every entering of the path is then accepted
 
   -- `Roomy`: the different states along the path, the root among them, are at most 512, and there is room for them, their cursors and their rules;
   -- transitions need none
@@ -99,7 +99,7 @@ module _ {w : List ℕ} where
         → Reached w (tableAlong w (built w stamp ranking t) 0 xs) (numberAlong w (built w stamp ranking t) 0 xs) stamp (map inputsTags xs)
     room-reaches stamp p = along-reached xs (root t stamp ranking room-builds) (room-suffices stamp p)
 
-  -- ---- "an accepted call keeps every earlier state's lists; the number of states never falls"; build apart, which begins anew
+  -- ---- an accepted call keeps every earlier state's lists (01: "later entries leave that part unchanged"), and the number of states never falls; build apart, which begins anew
 
   -- `After w t t′`: from t to t′ by accepted enterings, any number of them
   module _ {t t′ : Table} (c : Covered w t) (a : After w t t′) where
@@ -116,7 +116,7 @@ module _ {w : List ℕ} where
         × (listAt (matchedEnds (t .states)) (t′ .matched) k ≡ matchedAt (t .states) (t .matched) k)
     part-kept k h = (Left.from-kept w c a k h, Left.to-kept w c a k h, Left.part-kept w c a k h)
 
-  -- ---- "two entries of equal subjects from one parent give one child"
+  -- ---- two enterings of equal subjects from one parent give one child
 
   -- x is entered, then anything else, then y: that is accepted, room or not, and has the same child
   module _ {t : Table} (c : Covered w t) (number stamp : ℕ) (x : SelectorInputs) (v : Enters w t number stamp x) where

@@ -70,7 +70,7 @@ module _ {w : List ℕ} where
     pub same-path-same-entry : entryIn w t k p ≡ entryIn w t′ k′ p
     same-path-same-entry = ap (λ (s : Option Place). entryOf w s p) same-path-same-winner
 
-  -- ---- "A fresh table of the same sheet and ranking, with room, gives that path the same .. winners, whatever the numbers"
+  -- ---- "a fresh table gives that path the same .. winners whatever the numbers": one of the same sheet and ranking, with room
 
   -- build and the enterings are accepted: `fresh-builds`, `fresh-enters`
   module _ (xs : List SelectorInputs) {t : Table} {number stamp : ℕ} (r : Reached w t number stamp (map inputsTags xs)) (fresh : Table)

@@ -15,8 +15,8 @@ use Rattle.entering.specs.Answers.{Enter}
 use Rattle.entering.specs.declared.Entering.{Entering}
 
 module _ (w : List ℕ) (ranking : ℕ) where
-  -- "a table last built of it and since written only by accepted calls given it, in any order", and of that table "a state reached since from the root by
-  -- a path": the memory now, the state's number and stamp as they were answered, and the path. `w` is the words of the sheet
+  -- Demand 3: "a table built of it and written only by accepted calls, in any order", and of that table "a state reached by a path" from the root since the last
+  -- build: the memory now, the state's number and stamp as they were answered, and the path. `w` is the words of the sheet, the same at every call
   pub data Called : Table → ℕ → ℕ → List Tags → Type 0 where
     -- `build` answers Built: the root, of number 0. The head is an array of eight words
     built : {t t′ : Table} {stamp : ℕ} → length (t .head) ≡ 8 → Build w stamp ranking t Building.Built t′ → Called t′ 0 stamp []
