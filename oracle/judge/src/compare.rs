@@ -1,5 +1,6 @@
 //! Comparing a command with the judge, batch by batch or file by file.
 
+use std::env;
 use std::io::{IsTerminal, stderr};
 use std::slice;
 use std::sync::atomic::{AtomicUsize, Ordering};
@@ -12,20 +13,25 @@ use crate::run::{Output, run};
 use crate::shrink::{drop_some, lower, shrink_file};
 use crate::walk::walk;
 
-/// How often the command is run to make a difference small, and for how long.
+/// How often the command is run to make a difference small, and for how many seconds
+/// unless the environment's `JUDGE_SEARCH` has another number.
 const MOST_RUNS: usize = 2000;
-const LONGEST_SEARCH: Duration = Duration::from_secs(60);
+const LONGEST_SEARCH: u64 = 60;
 
 /// What is left of the search for something smaller.
 struct Search {
     begin: Instant,
+    longest: Duration,
     runs: usize,
 }
 
 impl Search {
     fn new() -> Self {
+        let asked = env::var("JUDGE_SEARCH").ok();
+        let seconds = asked.and_then(|text| text.parse().ok());
         Self {
             begin: Instant::now(),
+            longest: Duration::from_secs(seconds.unwrap_or(LONGEST_SEARCH)),
             runs: 0,
         }
     }
@@ -37,7 +43,7 @@ impl Search {
     }
 
     fn cut_off(&self) -> bool {
-        self.runs > MOST_RUNS || self.begin.elapsed() > LONGEST_SEARCH
+        self.runs > MOST_RUNS || self.begin.elapsed() > self.longest
     }
 
     fn told(&self) -> &'static str {

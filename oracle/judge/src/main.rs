@@ -93,7 +93,8 @@ them; 20,000 is enough for any, 5,000 for walks and cascades, 3,000 for files. W
 stored are whole cases only.
 
 Status: 0 all equal or done; 1 a difference, told on standard output, made as
-small as it goes; 2 wrong usage, or something could not be read, written or run.
+small as it goes in 2,000 runs and a minute, or JUDGE_SEARCH seconds of the
+environment; 2 wrong usage, or something could not be read, written or run.
 ";
 
 fn main() -> ExitCode {

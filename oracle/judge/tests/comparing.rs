@@ -5,8 +5,10 @@ use std::process::{Command, Output};
 
 const JUDGE: &str = env!("CARGO_BIN_EXE_judge");
 
+/// As long as it takes: beside other work a search of a minute may end early.
 fn judge(words: &[&str]) -> Output {
-    let output = Command::new(JUDGE).args(words).output();
+    let mut command = Command::new(JUDGE);
+    let output = command.args(words).env("JUDGE_SEARCH", "86400").output();
     output.expect("the judge can be run")
 }
 
