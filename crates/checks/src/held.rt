@@ -96,7 +96,7 @@ fn subjects_off(path: &[u32], m: usize) -> bool
 {
     let mut i = 0;
     while i < m {
-        if !row_ascends(path, SUBJECT_WORDS * i, 16) {
+        if !row_ascends(path, SUBJECT_WORDS * i) {
             return true;
         }
         i += 1;

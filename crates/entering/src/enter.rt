@@ -33,7 +33,7 @@ fn front_verdict(
     if !row_fits(row, 0, 16) {
         return 2;
     }
-    if !row_ascends(row, 0, 16) {
+    if !row_ascends(row, 0) {
         return 1;
     }
     0

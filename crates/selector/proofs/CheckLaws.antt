@@ -1,21 +1,21 @@
 -- Laws of the checks, by each way through the code. Assumes nothing.
 use mathlib.Core.Path.{_≡_, refl, sym, ap, _∙_}
-use mathlib.Core.Bool.{Bool, true, false, not, _&&_}
+use mathlib.Core.Bool.{Bool, true, false, not}
 use mathlib.Core.List.{List, [], _∷_}
 use mathlib.Core.Logic.{⊎-elim}
 use Prim.Native.Nat.{ℕ, _+_, _-_, _*_, _/_, _≤_, _<_}
 use native.Mathlib.Omega.{arith}
 use lib.ListN.{length, getD}
 use lib.Dec.{ltb, leb, eqb}
-use borrow.Author.Tests.{lt-ltb, le-ltb, le-leb, lt-leb, leb-true, ltb-false, not-true, not-false}
+use borrow.Author.Tests.{lt-ltb, le-ltb, le-leb, lt-leb, ltb-false, not-false}
 use Rattle.theory.specs.Lists.{ascends}
-use Rattle.theory.proofs.Lists.{or-first, or-second, le-or-lt, and-left, and-right}
+use Rattle.theory.proofs.Lists.{or-first, or-second, le-or-lt}
 use Rattle.lent.specs.All.{allBelow}
 use Rattle.lent.specs.Refusals.{check, firstOf}
 use Rattle.lent.proofs.All.{Sofar, sofar-start, sofar-done, sofar-more, sofar-fails}
 use Rattle.lent.proofs.Refusals.{first-under, first-clear}
 use Rattle.selector.specs.Rows.{wordsFrom, rowAt}
-use Rattle.selector.specs.Checks.{rowFits, selectorOver, pathOver, combinatorsOff, codesOver, tagsAscend, rowHeld, selectorVerdict}
+use Rattle.selector.specs.Checks.{rowFits, selectorOver, pathOver, combinatorsOff, codesOver, tagsAscend, selectorVerdict}
 
 -- ---- one row
 
@@ -29,65 +29,14 @@ module _ (size : ℕ) (words : List ℕ) (at w : ℕ) (e : w ≡ getD words (at 
   pub pseudos-fit : w ≤ size → (v : ℕ) → v ≡ getD words (at + 5) 0 → leb v size ≡ rowFits size words at
   pseudos-fit h v f = rw (← e, ← f, le-ltb size w h) (leb-not v size)
 
-module _ (size : ℕ) (path : List ℕ) (at : ℕ) (l : List ℕ) (b : Bool) (e : l ≡ wordsFrom path (at + 6) (getD path (at + 4) 0)) (f : b ≡ ascends l) where
-  pub classes-unsorted : b ≡ false → false ≡ tagsAscend (rowAt size path at)
+module _ (path : List ℕ) (at : ℕ) (l : List ℕ) (b : Bool) (e : l ≡ wordsFrom path (at + 6) (getD path (at + 4) 0)) (f : b ≡ ascends l) where
+  pub classes-unsorted : b ≡ false → false ≡ tagsAscend (rowAt 16 path at)
   unfolding rowAt
   classes-unsorted t = rw (← e, ← f, t)
 
-  pub pseudos-ascending : b ≡ true → (m : List ℕ) (r : Bool) → m ≡ wordsFrom path (at + (6 + size)) (getD path (at + 5) 0) → r ≡ ascends m → r ≡ tagsAscend (rowAt size path at)
+  pub pseudos-ascending : b ≡ true → (m : List ℕ) (r : Bool) → m ≡ wordsFrom path (at + 22) (getD path (at + 5) 0) → r ≡ ascends m → r ≡ tagsAscend (rowAt 16 path at)
   unfolding rowAt
   pseudos-ascending t m r g h = rw (← e, ← f, t, ← g) h
-
--- a row that is held, by each test
-module _ (size : ℕ) (words : List ℕ) (at : ℕ) where
-  pub type-flag-off : (x : ℕ) → x ≡ getD words at 0 → 1 < x → false ≡ rowHeld size words at
-  unfolding rowHeld
-  type-flag-off x e h = rw (← e, lt-leb x 1 h)
-
-  module _ (x : ℕ) (e : x ≡ getD words at 0) (h : x ≤ 1) (y : ℕ) (f : y ≡ getD words (at + 2) 0) where
-    pub part-flag-off : 1 < y → false ≡ rowHeld size words at
-    unfolding rowHeld
-    part-flag-off l = rw (← e, le-leb x 1 h, ← f, lt-leb y 1 l)
-
-    module _ (l : y ≤ 1) (b : Bool) (g : b ≡ rowFits size words at) where
-      pub row-over : not b ≡ true → false ≡ rowHeld size words at
-      unfolding rowHeld
-      row-over t = rw (← e, le-leb x 1 h, ← f, le-leb y 1 l, sym g ∙ not-true b t)
-
-      pub row-rises : not b ≡ false → (n : ℕ) (r : Bool) → n ≡ size → r ≡ tagsAscend (rowAt n words at) → r ≡ rowHeld size words at
-      unfolding rowHeld
-      row-rises t n r q k = rw (← e, le-leb x 1 h, ← f, le-leb y 1 l, sym g ∙ not-false b t) (rw q at k)
-
-  -- the same as facts
-  held-parts : rowHeld size words at ≡ true
-      → (leb (getD words at 0) 1 ≡ true) × (leb (getD words (at + 2) 0) 1 ≡ true) × (rowFits size words at ≡ true) × (tagsAscend (rowAt size words at) ≡ true)
-  unfolding rowHeld
-  held-parts e =
-      let a = leb (getD words at 0) 1 in
-      let b = leb (getD words (at + 2) 0) 1 in
-      let c = rowFits size words at in
-      let d = tagsAscend (rowAt size words at) in
-      let p = and-right a (b && (c && d)) e in
-      let q = and-right b (c && d) p in
-      (and-left a (b && (c && d)) e, and-left b (c && d) p, and-left c d q, and-right c d q)
-
-  pub held-flags : rowHeld size words at ≡ true → (getD words at 0 ≤ 1) × (getD words (at + 2) 0 ≤ 1)
-  held-flags e = let (a, b, _, _) = held-parts e in (leb-true (getD words at 0) 1 a, leb-true (getD words (at + 2) 0) 1 b)
-
-  pub held-counts : rowHeld size words at ≡ true → (getD words (at + 4) 0 ≤ size) × (getD words (at + 5) 0 ≤ size)
-  held-counts e =
-      let x = ltb size (getD words (at + 4) 0) in
-      let y = ltb size (getD words (at + 5) 0) in
-      let (_, _, c, _) = held-parts e in
-      (ltb-false size (getD words (at + 4) 0) (not-true x (and-left (not x) (not y) c)), ltb-false size (getD words (at + 5) 0) (not-true y (and-right (not x) (not y) c)))
-
-  pub held-rises : rowHeld size words at ≡ true → tagsAscend (rowAt size words at) ≡ true
-  held-rises e = let (_, _, _, d) = held-parts e in d
-
-  pub row-is-held : getD words at 0 ≤ 1 → getD words (at + 2) 0 ≤ 1 → getD words (at + 4) 0 ≤ size → getD words (at + 5) 0 ≤ size → tagsAscend (rowAt size words at) ≡ true
-      → rowHeld size words at ≡ true
-  unfolding rowHeld
-  row-is-held a b c d e = rw (le-leb _ 1 a, le-leb _ 1 b, le-ltb size _ c, le-ltb size _ d, e)
 
 -- ---- all rows, and all codes
 

@@ -3,13 +3,13 @@ use mathlib.Core.Bool.{Bool, _&&_, _||_, not}
 use mathlib.Core.List.{List, [], _∷_}
 use Prim.Native.Nat.{ℕ, _+_, _-_, _*_, _/_}
 use lib.ListN.{length, getD}
-use lib.Dec.{leb, ltb, eqb}
+use lib.Dec.{ltb, eqb}
 use Rattle.theory.specs.Sizes
 use Rattle.theory.specs.Lists.{ascends}
 use Rattle.lent.specs.Refusals.{check, firstOf}
 use Rattle.lent.specs.All.{allBelow}
 use Rattle.selector.specs.Tags.{Tags}
-use Rattle.selector.specs.Rows.{rowAt, subjectAt}
+use Rattle.selector.specs.Rows.{subjectAt}
 
 -- "a count is over its size", of a row's two counts: neither is
 abbrev pub rowFits : ℕ → List ℕ → ℕ → Bool
@@ -35,10 +35,6 @@ codesOver combinators c = not (allBelow c (λ j. not (ltb Sizes.COMBINATOR (getD
 
 abbrev pub tagsAscend : Tags → Bool
 tagsAscend t = ascends (t .classes) && ascends (t .pseudos)
-
--- A row as a sheet or a table holds it, by row 11: "counts past .. the sizes", "a code out of range" (a flag other than 0 and 1), "a list not strictly ascending"
-unfoldable pub rowHeld : ℕ → List ℕ → ℕ → Bool
-rowHeld size words at = leb (getD words at 0) 1 && (leb (getD words (at + 2) 0) 1 && (rowFits size words at && tagsAscend (rowAt size words at)))
 
 -- "a subject's ids .. are not strictly ascending"
 unfoldable pub subjectsOff : List ℕ → ℕ → Bool

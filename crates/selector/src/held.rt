@@ -10,7 +10,7 @@ ghost use lib.ListN.{getD};
 ghost use Rattle.theory.specs.Lists.{ascends, contained};
 ghost use Rattle.selector.specs.Tags.{asSets, tagOk, stepMatches};
 ghost use Rattle.selector.specs.Rows.{tagOf, wordsFrom, rowAt};
-ghost use Rattle.selector.specs.Checks.{rowFits, tagsAscend, rowHeld};
+ghost use Rattle.selector.specs.Checks.{rowFits, tagsAscend};
 ghost use Rattle.selector.specs.Weighing.{isSet};
 
 pub const STEP_WORDS: usize = 22;
@@ -35,7 +35,7 @@ pub fn flag(words: &[u32], at: usize) -> u32
 
 // Whether the counts of the row that begins at word `at` are within `size`.
 pub fn row_fits(words: &[u32], at: usize, size: u32) -> bool
-    requires { ⌜ at < 999999999000 ⌝ }
+    requires { ⌜ at < 4294967296 ⌝ }
     ensures { λ r. ⌜ r ≡ rowFits size (now (words .entry)) at ⌝ }
 {
     if size < word(words, at + 4) {
@@ -44,32 +44,15 @@ pub fn row_fits(words: &[u32], at: usize, size: u32) -> bool
     word(words, at + 5) <= size
 }
 
-// Whether the ids of the row that begins at word `at`, with room for `size` of each kind, ascend.
-pub fn row_ascends(words: &[u32], at: usize, size: usize) -> bool
-    requires { ⌜ (at < 999999999000) × (size ≤ 16) ⌝ }
-    ensures { λ r. ⌜ r ≡ tagsAscend (rowAt size (now (words .entry)) at) ⌝ }
+// Whether the ids of the subject row that begins at word `at` ascend.
+pub fn row_ascends(path: &[u32], at: usize) -> bool
+    requires { ⌜ at < 4294967000 ⌝ }
+    ensures { λ r. ⌜ r ≡ tagsAscend (rowAt 16 (now (path .entry)) at) ⌝ }
 {
-    if !is_ascending(ids(words, at + 6, at + 4)) {
+    if !is_ascending(ids(path, at + 6, at + 4)) {
         return false;
     }
-    is_ascending(ids(words, at + (6 + size), at + 5))
-}
-
-// Whether the row is one that a sheet or a table may hold.
-pub fn row_held(words: &[u32], at: usize, size: u32) -> bool
-    requires { ⌜ (at < 999999999000) × (size ≤ 16) ⌝ }
-    ensures { λ r. ⌜ r ≡ rowHeld size (now (words .entry)) at ⌝ }
-{
-    if 1 < word(words, at) {
-        return false;
-    }
-    if 1 < word(words, at + 2) {
-        return false;
-    }
-    if !row_fits(words, at, size) {
-        return false;
-    }
-    row_ascends(words, at, wide(size))
+    is_ascending(ids(path, at + 22, at + 5))
 }
 
 // Whether the tag at word s of a step, where set, is the one at word x of a subject.

@@ -11,11 +11,10 @@ use borrow.Author.Tests.{lt-ltb, le-ltb, not-true, not-false}
 use Rattle.theory.specs.Lists.{ascends, atMost, sumBelow}
 use Rattle.lent.specs.All.{allBelow}
 use Rattle.lent.specs.Pool.{endsIn, startOf, listAt}
-use Rattle.selector.specs.Rows.{wordsFrom}
-use Rattle.selector.specs.Checks.{rowHeld}
+use Rattle.selector.specs.Rows.{rowAt, wordsFrom}
 use Rattle.sheet.specs.Layout
 use Rattle.sheet.specs.Sheets.{ruleStepEnds}
-use Rattle.sheet.specs.Shape.{entriesFit, endToEnd, firstUntied, propertiesAscend, combinatorFits, stepFine, poolFits, idsAt, endsAt, idsMeet}
+use Rattle.sheet.specs.Shape.{entriesFit, endToEnd, firstUntied, propertiesAscend, typeFlagFits, partFlagFits, classesFit, pseudosFit, classesAscend, pseudosAscend, combinatorFits, stepFine, poolFits, idsAt, endsAt, idsMeet}
 
 -- ---- tests one after the other
 
@@ -79,15 +78,57 @@ module _ (w : List ℕ) (r first to : ℕ) (e : first ≡ startOf (ruleStepEnds 
 
 -- ---- steps
 
--- of step s: the row that stands at its place, and its combinator
-module _ (w : List ℕ) (s at : ℕ) (q : at ≡ Layout.stepPlace s) (b : Bool) (e : b ≡ rowHeld 8 w at) where
-  pub step-off : not b ≡ true → false ≡ stepFine w s
-  unfolding stepFine
-  step-off t = and-no _ _ b (rw q at e) t
+-- ids in a row that stands at `place`
+pub ids-rise : (w : List ℕ) (place at from count : ℕ) (l : List ℕ) (b : Bool) → at ≡ place → l ≡ wordsFrom w (at + from) (getD w (at + count) 0) → b ≡ ascends l
+    → b ≡ ascends (wordsFrom w (place + from) (getD w (place + count) 0))
+ids-rise w place at from count l b q e f = rw (← q, ← e) f
 
-  pub step-held : not b ≡ false → (r : Bool) → r ≡ leb (endsIn w 1310 23 s) 1 → r ≡ stepFine w s
-  unfolding stepFine combinatorFits
-  step-held t r f = and-yes _ _ b r (rw q at e) t f
+four : (x y z u v : Bool) → ((x && (y && (z && u))) && v) ≡ (x && (y && (z && (u && v))))
+four false y z u v = refl
+four true false z u v = refl
+four true true false u v = refl
+four true true true u v = refl
+
+-- what was read of step s, as a clause of its shape
+module _ (w : List ℕ) (s : ℕ) (b : Bool) where
+  step-word : (c n : ℕ) → b ≡ leb (endsIn w (Layout.STEP + c) Layout.STEP-WORDS s) n → b ≡ leb (getD w (Layout.stepPlace s + c) 0) n
+  unfolding endsIn
+  step-word c n e = let z : Layout.STEP + c + Layout.STEP-WORDS * s ≡ Layout.stepPlace s + c = omega arith in rw z at e
+
+  pub type-flag : b ≡ leb (endsIn w 1288 23 s) 1 → b ≡ typeFlagFits w s
+  unfolding typeFlagFits endsIn
+  type-flag e = e
+
+  pub part-flag : b ≡ leb (endsIn w 1290 23 s) 1 → b ≡ partFlagFits w s
+  unfolding partFlagFits
+  part-flag e = step-word 2 1 e
+
+  pub class-count : b ≡ leb (endsIn w 1292 23 s) 8 → b ≡ classesFit w s
+  unfolding classesFit
+  class-count e = step-word 4 8 e
+
+  pub pseudo-count : b ≡ leb (endsIn w 1293 23 s) 8 → b ≡ pseudosFit w s
+  unfolding pseudosFit
+  pseudo-count e = step-word 5 8 e
+
+  pub classes-rise : b ≡ ascends (wordsFrom w (Layout.stepPlace s + 6) (getD w (Layout.stepPlace s + 4) 0)) → b ≡ classesAscend w s
+  unfolding classesAscend rowAt
+  classes-rise e = e
+
+  pub pseudos-rise : b ≡ ascends (wordsFrom w (Layout.stepPlace s + 14) (getD w (Layout.stepPlace s + 5) 0)) → b ≡ pseudosAscend w s
+  unfolding pseudosAscend rowAt
+  pseudos-rise e = e
+
+  pub combinator-code : b ≡ leb (endsIn w 1310 23 s) 1 → b ≡ combinatorFits w s
+  unfolding combinatorFits
+  combinator-code e = e
+
+  -- all of them, the first four together
+  pub step-parts : b ≡ ((typeFlagFits w s && (partFlagFits w s && (classesFit w s && pseudosFit w s))) && (classesAscend w s && (pseudosAscend w s && combinatorFits w s))) → b ≡ stepFine w s
+  unfolding stepFine
+  step-parts e = e ∙ four (typeFlagFits w s) (partFlagFits w s) (classesFit w s) (pseudosFit w s) _
+
+pub ruleset cells = (type-flag, part-flag, class-count, pseudo-count, classes-rise, pseudos-rise, combinator-code)
 
 -- ---- pools
 

@@ -16,11 +16,10 @@ use Rattle.lent.specs.Pool.{endsIn, startOf, listAt}
 use Rattle.lent.proofs.All.{all-at, all-intro}
 use Rattle.lent.proofs.Pool.{Rising, starts-rise}
 use Rattle.selector.specs.Rows.{rowAt, wordsFrom}
-use Rattle.selector.specs.Checks.{rowFits, tagsAscend, rowHeld}
-use Rattle.selector.proofs.CheckLaws.{held-flags, held-counts, held-rises, row-is-held}
+use Rattle.selector.specs.Checks.{rowFits, tagsAscend}
 use Rattle.sheet.specs.Layout
 use Rattle.sheet.specs.Sheets.{ruleStepEnds, ruleEntryEnds, styleEntryEnds}
-use Rattle.sheet.specs.Shape.{roomEnough, rulesFit, stepsFit, idsFit, nextFits, ruleCountsFit, stylesFit, styleEntriesFit, entriesFit, styleCountsFit, countsFit, endToEnd, notLonger, listFits, originFits, sourceFits, propertiesAscend, firstUntied, ruleListsFit, ruleFine, styleFine, combinatorFits, stepFine, propertiesFit, kindsFit, poolFits, idsAt, endsAt, idsMeet, endsMeet, rowsFine, poolsFit, sheetShape}
+use Rattle.sheet.specs.Shape.{roomEnough, rulesFit, stepsFit, idsFit, nextFits, ruleCountsFit, stylesFit, styleEntriesFit, entriesFit, styleCountsFit, countsFit, endToEnd, notLonger, listFits, originFits, sourceFits, propertiesAscend, firstUntied, ruleListsFit, ruleFine, styleFine, typeFlagFits, partFlagFits, classesFit, pseudosFit, classesAscend, pseudosAscend, combinatorFits, stepFine, propertiesFit, kindsFit, poolFits, idsAt, endsAt, idsMeet, endsMeet, rowsFine, poolsFit, sheetShape}
 
 -- ---- the parts
 
@@ -185,16 +184,24 @@ module _ (w : List ℕ) where
 
   module _ (s : ℕ) where
     step-to : stepFine w s ≡ true → StepShaped w s
-    unfolding stepFine combinatorFits
+    unfolding stepFine typeFlagFits partFlagFits classesFit pseudosFit classesAscend pseudosAscend combinatorFits
     step-to e =
-        let (h, k) = two (rowHeld 8 w (Layout.stepPlace s)) (combinatorFits w s) e in
-        let (t, f) = held-flags 8 w (Layout.stepPlace s) h in
-        let (c, p) = held-counts 8 w (Layout.stepPlace s) h in
-        record { type-flag = t; part-flag = f; classes = c; pseudos = p; sorted = held-rises 8 w (Layout.stepPlace s) h; combinator = leb-true _ 1 k }
+        let (t, f, c, rest) = four (typeFlagFits w s) (partFlagFits w s) (classesFit w s) (pseudosFit w s && (classesAscend w s && (pseudosAscend w s && combinatorFits w s))) e in
+        let (p, d, q, k) = four (pseudosFit w s) (classesAscend w s) (pseudosAscend w s) (combinatorFits w s) rest in
+        record {
+          type-flag = leb-true _ 1 t;
+          part-flag = leb-true _ 1 f;
+          classes = leb-true _ 8 c;
+          pseudos = leb-true _ 8 p;
+          sorted = and-both _ _ d q;
+          combinator = leb-true _ 1 k;
+        }
 
     step-from : StepShaped w s → stepFine w s ≡ true
-    unfolding stepFine combinatorFits
-    step-from t = rw (row-is-held 8 w (Layout.stepPlace s) (t .type-flag) (t .part-flag) (t .classes) (t .pseudos) (t .sorted), le-leb _ 1 (t .combinator))
+    unfolding stepFine typeFlagFits partFlagFits classesFit pseudosFit classesAscend pseudosAscend combinatorFits
+    step-from t =
+        let (d, q) = two (ascends (rowAt 8 w (Layout.stepPlace s) .classes)) (ascends (rowAt 8 w (Layout.stepPlace s) .pseudos)) (t .sorted) in
+        rw (le-leb _ 1 (t .type-flag), le-leb _ 1 (t .part-flag), le-leb _ 8 (t .classes), le-leb _ 8 (t .pseudos), d, q, le-leb _ 1 (t .combinator))
 
     -- the counts of its ids, as callees of `selector` ask
     pub row-from : StepShaped w s → rowFits 8 w (Layout.stepPlace s) ≡ true

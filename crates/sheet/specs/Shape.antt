@@ -8,8 +8,7 @@ use Rattle.theory.specs.Sizes
 use Rattle.theory.specs.Lists.{ascends, atMost, sumBelow}
 use Rattle.lent.specs.All.{allBelow}
 use Rattle.lent.specs.Pool.{endsIn, startOf, listAt}
-use Rattle.selector.specs.Rows.{wordsFrom}
-use Rattle.selector.specs.Checks.{rowHeld}
+use Rattle.selector.specs.Rows.{rowAt, wordsFrom}
 use Rattle.sheet.specs.Layout
 use Rattle.sheet.specs.Sheets.{ruleStepEnds, ruleEntryEnds, styleEntryEnds}
 
@@ -99,13 +98,41 @@ styleFine w d =
     && (listFits (styleEntryEnds w) Sizes.STYLE-ENTRIES d
     && propertiesAscend w Layout.STYLE-ENTRY (styleEntryEnds w) d))
 
--- of step s: a combinator code at most 1
+-- of step s: a flag is 0 or 1;
+unfoldable pub typeFlagFits : List ℕ → ℕ → Bool
+typeFlagFits w s = leb (getD w (Layout.stepPlace s) 0) 1
+
+unfoldable pub partFlagFits : List ℕ → ℕ → Bool
+partFlagFits w s = leb (getD w (Layout.stepPlace s + 2) 0) 1
+
+-- at most 8 classes
+unfoldable pub classesFit : List ℕ → ℕ → Bool
+classesFit w s = leb (getD w (Layout.stepPlace s + 4) 0) Sizes.STEP-IDS
+
+-- and 8 pseudos;
+unfoldable pub pseudosFit : List ℕ → ℕ → Bool
+pseudosFit w s = leb (getD w (Layout.stepPlace s + 5) 0) Sizes.STEP-IDS
+
+-- both ascending;
+unfoldable pub classesAscend : List ℕ → ℕ → Bool
+classesAscend w s = ascends (rowAt 8 w (Layout.stepPlace s) .classes)
+
+unfoldable pub pseudosAscend : List ℕ → ℕ → Bool
+pseudosAscend w s = ascends (rowAt 8 w (Layout.stepPlace s) .pseudos)
+
+-- a combinator code at most 1
 unfoldable pub combinatorFits : List ℕ → ℕ → Bool
 combinatorFits w s = leb (endsIn w Layout.STEP-COMBINATOR Layout.STEP-WORDS s) Sizes.COMBINATOR
 
--- and its row: at most 8 classes and 8 pseudos, both ascending, and flags of 0 or 1
 unfoldable pub stepFine : List ℕ → ℕ → Bool
-stepFine w s = rowHeld Sizes.STEP-IDS w (Layout.stepPlace s) && combinatorFits w s
+stepFine w s =
+    typeFlagFits w s
+    && (partFlagFits w s
+    && (classesFit w s
+    && (pseudosFit w s
+    && (classesAscend w s
+    && (pseudosAscend w s
+    && combinatorFits w s)))))
 
 -- of the n entries of a pool: property words at most 65,535,
 unfoldable pub propertiesFit : List ℕ → ℕ → ℕ → Bool

@@ -83,6 +83,26 @@ pub const RULE_ENTRY_ENDS: Column = Column {
     stride: RULE_WORDS,
 };
 
+pub const STEP_TYPE_FLAGS: Column = Column {
+    base: STEP,
+    stride: STEP_WORDS,
+};
+
+pub const STEP_PART_FLAGS: Column = Column {
+    base: STEP + 2,
+    stride: STEP_WORDS,
+};
+
+pub const STEP_CLASS_COUNTS: Column = Column {
+    base: STEP + 4,
+    stride: STEP_WORDS,
+};
+
+pub const STEP_PSEUDO_COUNTS: Column = Column {
+    base: STEP + 5,
+    stride: STEP_WORDS,
+};
+
 pub const STEP_COMBINATORS: Column = Column {
     base: STEP_COMBINATOR,
     stride: STEP_WORDS,

@@ -10,7 +10,7 @@ use lent::lists::cell;
 use lent::lists::start_of;
 use lent::words::wide;
 use lent::words::word;
-use selector::held::row_held;
+use selector::held::ids;
 ghost use mathlib.Core.Path.{_≡_};
 ghost use mathlib.Core.Bool.{true, _&&_};
 ghost use Prim.Native.Nat.{_+_, _-_, _≤_, _<_};
@@ -21,7 +21,7 @@ ghost use Rattle.lent.specs.All.{allBelow};
 ghost use Rattle.lent.specs.Pool.{endsIn, startOf};
 ghost use Rattle.selector.specs.Rows.{wordsFrom};
 ghost use Rattle.sheet.specs.Layout.{stepPlace};
-ghost use Rattle.sheet.specs.Shape.{roomEnough, ruleCountsFit, entriesFit, styleCountsFit, countsFit, endToEnd, listFits, propertiesAscend, firstUntied, ruleListsFit, ruleFine, styleFine, stepFine, poolFits, idsAt, endsAt, idsMeet, endsMeet, rowsFine, poolsFit, sheetShape};
+ghost use Rattle.sheet.specs.Shape.{roomEnough, ruleCountsFit, entriesFit, styleCountsFit, countsFit, endToEnd, listFits, propertiesAscend, firstUntied, ruleListsFit, ruleFine, styleFine, typeFlagFits, partFlagFits, classesFit, pseudosFit, stepFine, poolFits, idsAt, endsAt, idsMeet, endsMeet, rowsFine, poolsFit, sheetShape};
 
 fn room_enough(sheet: &[u32]) -> bool
     ensures { λ r. ⌜ r ≡ roomEnough (now (sheet .entry)) ⌝ }
@@ -185,11 +185,42 @@ pub fn step_place(s: u32) -> usize
     wide(layout::STEP) + wide(layout::STEP_WORDS) * wide(s)
 }
 
+// The ids of step s that stand from word `from` of its row on, as many as word `count` says.
+fn ids_ascend(sheet: &[u32], s: u32, from: usize, count: usize) -> bool
+    requires { ⌜ (s < 2048) × (from ≤ 22) × (count ≤ 22) ⌝ }
+    ensures { λ r. ⌜ r ≡ ascends (wordsFrom (now (sheet .entry)) (stepPlace s + from) (getD (now (sheet .entry)) (stepPlace s + count) 0)) ⌝ }
+{
+    let at = step_place(s);
+    is_ascending(ids(sheet, at + from, at + count))
+}
+
+// The flags and the counts of step s.
+fn step_words_fit(sheet: &[u32], s: u32) -> bool
+    ensures { λ r. ⌜ r ≡ (typeFlagFits (now (sheet .entry)) s && (partFlagFits (now (sheet .entry)) s && (classesFit (now (sheet .entry)) s && pseudosFit (now (sheet .entry)) s))) ⌝ }
+{
+    if !cell_fits(sheet, layout::STEP_TYPE_FLAGS, s, 1) {
+        return false;
+    }
+    if !cell_fits(sheet, layout::STEP_PART_FLAGS, s, 1) {
+        return false;
+    }
+    if !cell_fits(sheet, layout::STEP_CLASS_COUNTS, s, 8) {
+        return false;
+    }
+    cell_fits(sheet, layout::STEP_PSEUDO_COUNTS, s, 8)
+}
+
 fn step_fine(sheet: &[u32], s: u32) -> bool
     requires { ⌜ s < 2048 ⌝ }
     ensures { λ b. ⌜ b ≡ stepFine (now (sheet .entry)) s ⌝ }
 {
-    if !row_held(sheet, step_place(s), 8) {
+    if !step_words_fit(sheet, s) {
+        return false;
+    }
+    if !ids_ascend(sheet, s, 6, 4) {
+        return false;
+    }
+    if !ids_ascend(sheet, s, 14, 5) {
         return false;
     }
     cell_fits(sheet, layout::STEP_COMBINATORS, s, 1)

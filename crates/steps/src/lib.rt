@@ -237,7 +237,7 @@ impl SelectorStep {
         if !row_fits(&x, 0, 16) {
             return Matching::Refused(Refusal::OverSize);
         }
-        if !row_ascends(&x, 0, 16) {
+        if !row_ascends(&x, 0) {
             return Matching::Refused(Refusal::NotAscending);
         }
         if matches_row(&s, 0, &x, 0) {

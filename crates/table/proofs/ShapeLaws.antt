@@ -14,13 +14,12 @@ use Rattle.theory.specs.Lists.{ascends}
 use Rattle.theory.proofs.Lists.{le-or-lt}
 use Rattle.lent.specs.Pool.{startOf}
 use Rattle.selector.specs.Rows.{rowAt}
-use Rattle.selector.specs.Checks.{rowHeld}
 use Rattle.sheet.specs.Layout.{rulesIn}
 use Rattle.sheet.specs.Sheets.{ruleStepEnds}
 use Rattle.sheet.specs.Shape.{sheetShape, endsAt}
 use Rattle.sheet.proofs.Shaped.{shaped, step-start-within}
 use Rattle.table.specs.Tables
-use Rattle.table.specs.Shape.{cursorExists, ruleExists, rootMatched}
+use Rattle.table.specs.Shape.{cursorExists, ruleExists, typeFlagFits, partFlagFits, classesFit, pseudosFit, classesAscend, pseudosAscend, rootMatched}
 use Rattle.table.proofs.Selectors.{selector-past, selector-length}
 use Rattle.table.proofs.Same.{same-none}
 
@@ -77,10 +76,33 @@ module _ (w l : List ℕ) (i i′ x : ℕ) (b : Bool) (e : i′ ≡ i) (f : x �
   pub rule-read : b ≡ ruleExists w x → b ≡ ruleExists w (getD l i 0)
   rule-read g = g ∙ rw (f, e)
 
--- ---- the subject of a transition, whose row stands at its place
+-- ---- the subject of a transition
 
-pub subject-held : (t : List ℕ) (k at : ℕ) → at ≡ Tables.subjectPlace k → (b : Bool) → b ≡ rowHeld 16 t at → b ≡ rowHeld 16 t (Tables.subjectPlace k)
-subject-held t k at q b e = rw q at e
+module _ (t : List ℕ) (k at : ℕ) (q : at ≡ Tables.subjectPlace k) where
+  pub type-flag : (x : ℕ) → x ≡ getD t at 0 → leb x 1 ≡ typeFlagFits t k
+  unfolding typeFlagFits
+  type-flag x e = rw (e, q)
+
+  pub part-flag : (x : ℕ) → x ≡ getD t (at + 2) 0 → leb x 1 ≡ partFlagFits t k
+  unfolding partFlagFits
+  part-flag x e = rw (e, q)
+
+  pub classes-few : (x : ℕ) → x ≡ getD t (at + 4) 0 → leb x 16 ≡ classesFit t k
+  unfolding classesFit
+  classes-few x e = rw (e, q)
+
+  pub pseudos-few : (x : ℕ) → x ≡ getD t (at + 5) 0 → leb x 16 ≡ pseudosFit t k
+  unfolding pseudosFit
+  pseudos-few x e = rw (e, q)
+
+  module _ (n n′ : ℕ) (l : List ℕ) (b : Bool) (e : n′ ≡ n) (s : b ≡ ascends l) where
+    pub classes-rise : n ≡ getD t (at + 4) 0 → l ≡ take (at + 6 + n′ - (at + 6)) (drop (at + 6) t) → b ≡ classesAscend t k
+    unfolding classesAscend rowAt
+    classes-rise f p = let z : at + 6 + n′ - (at + 6) ≡ n = omega arith in rw (← q, ← f, ← (rw z at p)) s
+
+    pub pseudos-rise : n ≡ getD t (at + 5) 0 → l ≡ take (at + 22 + n′ - (at + 22)) (drop (at + 22) t) → b ≡ pseudosAscend t k
+    unfolding pseudosAscend rowAt
+    pseudos-rise f p = let z : at + 22 + n′ - (at + 22) ≡ n = omega arith in rw (← q, ← f, ← (rw z at p)) s
 
 -- ---- the root
 

@@ -7,17 +7,15 @@ use lib.ListN.{length, getD}
 use borrow.Author.Tests.{lt-ltb, ltb-true, le-leb, leb-true, eq-eqb, eqb-true}
 use Rattle.theory.specs.Lists.{ascends}
 use Rattle.theory.specs.States.{rule, starts}
-use Rattle.theory.proofs.Lists.{and-left, and-right, and-both}
+use Rattle.theory.proofs.Lists.{and-left, and-right}
 use Rattle.lent.specs.All.{allBelow}
 use Rattle.lent.specs.Pool.{startOf}
 use Rattle.lent.proofs.All.{all-at, all-intro}
-use Rattle.selector.specs.Checks.{rowHeld}
-use Rattle.selector.proofs.CheckLaws.{held-flags, held-counts, held-rises, row-is-held}
 use Rattle.sheet.specs.Layout.{rulesIn}
 use Rattle.sheet.specs.Shape.{endToEnd, endsAt}
 use Rattle.sheet.proofs.Shaped.{end-within}
 use Rattle.table.specs.Tables
-use Rattle.table.specs.Shape.{rootThere, statesFit, rankingFits, statesHeld, cursorsHeld, matchedHeld, transitionsHeld, cursorsAscend, matchedAscend, cursorExists, ruleExists, parentExists, childExists, rootCursors, rootMatched, countsFit, stateFine, transitionFine, listsMeet, statesFine, numbersExist, rootBuilt, tableShape}
+use Rattle.table.specs.Shape.{rootThere, statesFit, rankingFits, statesHeld, cursorsHeld, matchedHeld, transitionsHeld, classesFit, pseudosFit, typeFlagFits, partFlagFits, cursorsAscend, matchedAscend, classesAscend, pseudosAscend, cursorExists, ruleExists, parentExists, childExists, rootCursors, rootMatched, countsFit, stateFine, subjectFine, transitionFine, listsMeet, statesFine, numbersExist, rootBuilt, tableShape}
 use Rattle.table.proofs.Same.{same-is}
 
 -- the subject of transition k
@@ -80,24 +78,25 @@ module _ (states cursors matched : List ℕ) where
   state-from k p q e f = rw (le-leb _ (Tables.cursorEnds states k) p, le-leb _ (Tables.matchedEnds states k) q, e, f)
 
 module _ (transitions : List ℕ) (k : ℕ) where
-  subject-to : rowHeld 16 transitions (Tables.subjectPlace k) ≡ true → SubjectShaped transitions k
-  subject-to h =
-      let (t, f) = held-flags 16 transitions (Tables.subjectPlace k) h in
-      let (c, p) = held-counts 16 transitions (Tables.subjectPlace k) h in
-      let r = held-rises 16 transitions (Tables.subjectPlace k) h in
-      let x = Tables.subjectOf transitions k in
+  subject-to : subjectFine transitions k ≡ true → SubjectShaped transitions k
+  unfolding subjectFine typeFlagFits partFlagFits classesFit pseudosFit classesAscend pseudosAscend
+  subject-to e =
+      let f = and-right (typeFlagFits transitions k) _ e in
+      let g = and-right (partFlagFits transitions k) _ f in
+      let h = and-right (classesFit transitions k) _ g in
+      let i = and-right (pseudosFit transitions k) _ h in
       record {
-        type-flag = t;
-        part-flag = f;
-        classes = c;
-        pseudos = p;
-        classes-rise = and-left (ascends (x .classes)) (ascends (x .pseudos)) r;
-        pseudos-rise = and-right (ascends (x .classes)) (ascends (x .pseudos)) r;
+        type-flag = leb-true _ 1 (and-left (typeFlagFits transitions k) _ e);
+        part-flag = leb-true _ 1 (and-left (partFlagFits transitions k) _ f);
+        classes = leb-true _ 16 (and-left (classesFit transitions k) _ g);
+        pseudos = leb-true _ 16 (and-left (pseudosFit transitions k) _ h);
+        classes-rise = and-left (classesAscend transitions k) _ i;
+        pseudos-rise = and-right (classesAscend transitions k) _ i;
       }
 
-  subject-from : SubjectShaped transitions k → rowHeld 16 transitions (Tables.subjectPlace k) ≡ true
-  subject-from s =
-      row-is-held 16 transitions (Tables.subjectPlace k) (s .type-flag) (s .part-flag) (s .classes) (s .pseudos) (and-both _ _ (s .classes-rise) (s .pseudos-rise))
+  subject-from : SubjectShaped transitions k → subjectFine transitions k ≡ true
+  unfolding subjectFine typeFlagFits partFlagFits classesFit pseudosFit classesAscend pseudosAscend
+  subject-from s = rw (le-leb _ 1 (s .type-flag), le-leb _ 1 (s .part-flag), le-leb _ 16 (s .classes), le-leb _ 16 (s .pseudos), s .classes-rise, s .pseudos-rise)
 
 module _ (head transitions : List ℕ) where
   transitions-to : (n : ℕ) → allBelow n (transitionFine head transitions) ≡ true → (k : ℕ) → k < n

@@ -9,7 +9,6 @@ use Rattle.theory.specs.Lists.{ascends, compare}
 use Rattle.theory.specs.States.{rule, starts}
 use Rattle.theory.specs.Cascade.{isZero}
 use Rattle.lent.specs.All.{allBelow}
-use Rattle.selector.specs.Checks.{rowHeld}
 use Rattle.sheet.specs.Layout.{rulesIn}
 use Rattle.sheet.specs.Shape.{endToEnd, endsAt}
 use Rattle.table.specs.Tables
@@ -38,18 +37,37 @@ matchedHeld head matched = leb (Tables.matchedIn head) (length matched)
 unfoldable pub transitionsHeld : List ℕ → List ℕ → Bool
 transitionsHeld head transitions = leb (Tables.TRANSITION-WORDS * Tables.transitionsIn head) (length transitions)
 
--- ---- "a code out of range": the ranking
+-- "a subject's classes and pseudos 0 to 16 each"
+unfoldable pub classesFit : List ℕ → ℕ → Bool
+classesFit transitions k = leb (getD transitions (Tables.subjectPlace k + 4) 0) Sizes.SUBJECT-IDS
+
+unfoldable pub pseudosFit : List ℕ → ℕ → Bool
+pseudosFit transitions k = leb (getD transitions (Tables.subjectPlace k + 5) 0) Sizes.SUBJECT-IDS
+
+-- ---- "a code out of range": the ranking, and flags other than 0 and 1
 
 unfoldable pub rankingFits : List ℕ → Bool
 rankingFits head = leb (Tables.rankingIn head) Sizes.RANKING
 
--- ---- "a list not strictly ascending": a state's cursors, its matched rules
+unfoldable pub typeFlagFits : List ℕ → ℕ → Bool
+typeFlagFits transitions k = leb (getD transitions (Tables.subjectPlace k) 0) 1
+
+unfoldable pub partFlagFits : List ℕ → ℕ → Bool
+partFlagFits transitions k = leb (getD transitions (Tables.subjectPlace k + 2) 0) 1
+
+-- ---- "a list not strictly ascending": a state's cursors, its matched rules; a cached subject's classes and pseudos
 
 unfoldable pub cursorsAscend : List ℕ → List ℕ → ℕ → Bool
 cursorsAscend states cursors k = ascends (Tables.cursorsAt states cursors k)
 
 unfoldable pub matchedAscend : List ℕ → List ℕ → ℕ → Bool
 matchedAscend states matched k = ascends (Tables.matchedAt states matched k)
+
+unfoldable pub classesAscend : List ℕ → ℕ → Bool
+classesAscend transitions k = ascends (Tables.subjectOf transitions k .classes)
+
+unfoldable pub pseudosAscend : List ℕ → ℕ → Bool
+pseudosAscend transitions k = ascends (Tables.subjectOf transitions k .pseudos)
 
 -- ---- "a cursor, rule or state number that doesn't exist"
 
@@ -98,12 +116,19 @@ stateFine states cursors matched k =
     && (cursorsAscend states cursors k
     && matchedAscend states matched k))
 
--- transition k: the two states, and the subject's row
+-- transition k: the subject,
+unfoldable pub subjectFine : List ℕ → ℕ → Bool
+subjectFine transitions k =
+    typeFlagFits transitions k
+    && (partFlagFits transitions k
+    && (classesFit transitions k
+    && (pseudosFit transitions k
+    && (classesAscend transitions k
+    && pseudosAscend transitions k))))
+
+-- and the two states
 unfoldable pub transitionFine : List ℕ → List ℕ → ℕ → Bool
-transitionFine head transitions k =
-    parentExists head transitions k
-    && (childExists head transitions k
-    && rowHeld Sizes.SUBJECT-IDS transitions (Tables.subjectPlace k))
+transitionFine head transitions k = parentExists head transitions k && (childExists head transitions k && subjectFine transitions k)
 
 unfoldable pub listsMeet : List ℕ → List ℕ → Bool
 listsMeet head states =

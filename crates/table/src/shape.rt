@@ -8,7 +8,6 @@ use lent::lists::cell;
 use lent::lists::start_of;
 use lent::words::wide;
 use lent::words::word;
-use selector::held::row_held;
 use sheet::shape::end_to_end;
 use sheet::shape::ends_at;
 use sheet::shape::is_sheet;
@@ -20,7 +19,7 @@ ghost use lib.ListN.{getD};
 ghost use Rattle.lent.specs.All.{allBelow};
 ghost use Rattle.sheet.specs.Shape.{sheetShape};
 ghost use Rattle.table.specs.Tables.{table, transitionsIn, subjectPlace};
-ghost use Rattle.table.specs.Shape.{rootThere, statesFit, rankingFits, statesHeld, cursorsHeld, matchedHeld, transitionsHeld, cursorsAscend, matchedAscend, cursorExists, ruleExists, parentExists, childExists, rootCursors, rootMatched, countsFit, stateFine, transitionFine, listsMeet, statesFine, numbersExist, rootBuilt, tableShape};
+ghost use Rattle.table.specs.Shape.{rootThere, statesFit, rankingFits, statesHeld, cursorsHeld, matchedHeld, transitionsHeld, classesFit, pseudosFit, typeFlagFits, partFlagFits, cursorsAscend, matchedAscend, classesAscend, pseudosAscend, cursorExists, ruleExists, parentExists, childExists, rootCursors, rootMatched, countsFit, stateFine, subjectFine, transitionFine, listsMeet, statesFine, numbersExist, rootBuilt, tableShape};
 ghost use Rattle.table.specs.Calls.{broken};
 
 // ---- the head
@@ -242,6 +241,73 @@ pub fn subject_place(k: u32) -> usize
     wide(layout::SUBJECT) + wide(layout::TRANSITION_WORDS) * wide(k)
 }
 
+fn type_flag_fits(transitions: &[u32], k: u32) -> bool
+    ensures { λ r. ⌜ r ≡ typeFlagFits (now (transitions .entry)) k ⌝ }
+{
+    word(transitions, subject_place(k)) <= 1
+}
+
+fn part_flag_fits(transitions: &[u32], k: u32) -> bool
+    ensures { λ r. ⌜ r ≡ partFlagFits (now (transitions .entry)) k ⌝ }
+{
+    word(transitions, subject_place(k) + 2) <= 1
+}
+
+fn classes_fit(transitions: &[u32], k: u32) -> bool
+    ensures { λ r. ⌜ r ≡ classesFit (now (transitions .entry)) k ⌝ }
+{
+    word(transitions, subject_place(k) + 4) <= 16
+}
+
+fn pseudos_fit(transitions: &[u32], k: u32) -> bool
+    ensures { λ r. ⌜ r ≡ pseudosFit (now (transitions .entry)) k ⌝ }
+{
+    word(transitions, subject_place(k) + 5) <= 16
+}
+
+fn classes_ascend(transitions: &[u32], k: u32) -> bool
+    ensures { λ r. ⌜ r ≡ classesAscend (now (transitions .entry)) k ⌝ }
+{
+    let at = subject_place(k);
+    is_ascending(lent::held::part(
+        transitions,
+        at + 6,
+        at + 6 + wide(word(transitions, at + 4)),
+    ))
+}
+
+fn pseudos_ascend(transitions: &[u32], k: u32) -> bool
+    ensures { λ r. ⌜ r ≡ pseudosAscend (now (transitions .entry)) k ⌝ }
+{
+    let at = subject_place(k);
+    is_ascending(lent::held::part(
+        transitions,
+        at + 22,
+        at + 22 + wide(word(transitions, at + 5)),
+    ))
+}
+
+fn subject_fine(transitions: &[u32], k: u32) -> bool
+    ensures { λ r. ⌜ r ≡ subjectFine (now (transitions .entry)) k ⌝ }
+{
+    if !type_flag_fits(transitions, k) {
+        return false;
+    }
+    if !part_flag_fits(transitions, k) {
+        return false;
+    }
+    if !classes_fit(transitions, k) {
+        return false;
+    }
+    if !pseudos_fit(transitions, k) {
+        return false;
+    }
+    if !classes_ascend(transitions, k) {
+        return false;
+    }
+    pseudos_ascend(transitions, k)
+}
+
 fn parent_exists(head: &[u32], transitions: &[u32], k: u32) -> bool
     ensures { λ r. ⌜ r ≡ parentExists (now (head .entry)) (now (transitions .entry)) k ⌝ }
 {
@@ -265,7 +331,7 @@ fn transition_fine(head: &[u32], transitions: &[u32], k: u32) -> bool
     if !child_exists(head, transitions, k) {
         return false;
     }
-    row_held(transitions, subject_place(k), 16)
+    subject_fine(transitions, k)
 }
 
 fn transitions_fine(head: &[u32], transitions: &[u32]) -> bool

@@ -25,9 +25,6 @@ add-ids-3 c = search needs
 add-ids-4 : tie.Need-add-ids-4
 add-ids-4 c = search needs
 
-add-ids-5 : tie.Need-add-ids-5
-add-ids-5 c = search needs
-
 ids-requires-2 : tie.Need-ids-requires-2
 ids-requires-2 c κs = search needs
 
@@ -48,7 +45,6 @@ row-ascends-spec =
     returns
     add-ids-3
     add-ids-4
-    add-ids-5
     ids-requires-2
     is-ascending-requires-2
     returns-2)

@@ -1,7 +1,6 @@
 use borrow.Author.Needs.{needs}
 use Rattle.sheet.proofs.ShapeLaws.{tests}
 use Rattle.table.specs.Shape.{transitionFine}
-use Rattle.table.proofs.ShapeLaws.{subject-held}
 use Rattle.table.proofs.shape.transition_fine.Statement.{statement}
 use Rattle.table.proofs.shape.transition_fine.Tie as tie
 
@@ -19,15 +18,12 @@ returns-2 : tie.Need-returns-2
 unfolding transitionFine
 returns-2 c = search (tests, needs)
 
-subject-place-requires : tie.Need-subject-place-requires
-subject-place-requires c κs = search needs
-
-row-held-requires : tie.Need-row-held-requires
-row-held-requires c κs = search needs
+subject-fine-requires : tie.Need-subject-fine-requires
+subject-fine-requires c κs = search needs
 
 returns-3 : tie.Need-returns-3
 unfolding transitionFine
-returns-3 c = search (tests, subject-held, needs)
+returns-3 c = search (tests, needs)
 
 pub transition-fine-spec : {M : Type 1} → statement M
 transition-fine-spec =
@@ -37,6 +33,5 @@ transition-fine-spec =
     returns
     child-exists-requires
     returns-2
-    subject-place-requires
-    row-held-requires
+    subject-fine-requires
     returns-3)
