@@ -40,6 +40,7 @@ use compare::{compare_cases, compare_files};
 use generate::random::Random;
 use options::{Options, What};
 use paths::PathCase;
+use run::Way;
 use walks::WalkCase;
 use words::Case;
 
@@ -70,11 +71,15 @@ judge: answers test cases from the published code
       4 MiB (the others), to a shell command on its standard input and
       compares its output with the judge's; some batches end inside a case or
       in a wrong one
-  judge compare files --run COMMAND --seed N --count N [--keep FILE]
+  judge compare files --run COMMAND|--serve COMMAND --seed N --count N
+              [--keep FILE]
       gives N files of house records to a shell command on its standard
       input, one a run and as many runs at once as there are cores, and
       compares its output with the judge's byte for byte; a file that differs
-      is kept in FILE, made small
+      is kept in FILE, made small. A command that serves is started once for
+      each core, and for each byte that it reads it answers the file `in` of
+      the current folder by the file `out` and then writes 4 bytes, how the
+      process that did so ended (tools/served.c)
   judge store lists|paths|builds|walks|cascades --seed N --count N
               --cases FILE --answers FILE
       writes N cases and the judge's answers to them; of builds, walks and
@@ -378,9 +383,18 @@ fn compare(what: What, words: &[&str]) -> Result<ExitCode, String> {
 }
 
 fn compare_all_files(words: &[&str]) -> Result<ExitCode, String> {
-    let options = Options::read_or(words, &["--run", "--seed", "--count"], &["--keep"])?;
+    let options = Options::read_or(
+        words,
+        &["--seed", "--count"],
+        &["--run", "--serve", "--keep"],
+    )?;
     let (seed, count) = (options.seed()?, options.count()?);
-    let found = compare_files(options.text("--run")?, seed, count, files(seed, count))?;
+    let way = match (options.text("--run"), options.text("--serve")) {
+        (Ok(command), Err(_)) => Way::Each(command),
+        (Err(_), Ok(command)) => Way::Served(command),
+        _ => return Err("either `--run` or `--serve` is wanted".to_string()),
+    };
+    let found = compare_files(way, seed, count, files(seed, count))?;
     if let (Some(different), Ok(path)) = (&found, options.text("--keep")) {
         write_file(Path::new(path), &different.file)?;
     }
