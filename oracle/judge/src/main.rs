@@ -1,32 +1,4 @@
-//! A judge for document 01: it answers cases from the published code, makes
-//! cases from a seed, and compares a command's answers with its own.
-
-mod asking;
-mod batches;
-mod builds;
-mod compare;
-mod faults;
-mod generate;
-mod lists;
-mod options;
-mod paths;
-mod records;
-mod run;
-mod sheet;
-mod shrink;
-#[cfg(test)]
-mod tests;
-#[cfg(test)]
-mod tests_of_builds;
-#[cfg(test)]
-mod tests_of_cascades;
-#[cfg(test)]
-mod tests_of_files;
-#[cfg(test)]
-mod tests_of_walks;
-mod walk;
-mod walks;
-mod words;
+//! The command line.
 
 use std::collections::BTreeSet;
 use std::fs;
@@ -34,15 +6,16 @@ use std::io::{self, Read, Write};
 use std::path::Path;
 use std::process::ExitCode;
 
-use batches::{Batch, Form, build_batches, list_batches, path_batches, walk_batches};
-use builds::BuildCase;
-use compare::{compare_cases, compare_files};
-use generate::random::Random;
-use options::{Options, What};
-use paths::PathCase;
-use run::Way;
-use walks::WalkCase;
-use words::Case;
+use judge::batches::{Batch, Form, build_batches, list_batches, path_batches, walk_batches};
+use judge::builds::BuildCase;
+use judge::compare::{compare_cases, compare_files};
+use judge::generate::random::Random;
+use judge::options::{Options, What};
+use judge::paths::PathCase;
+use judge::run::Way;
+use judge::walk;
+use judge::walks::WalkCase;
+use judge::words::Case;
 
 const HELP: &str = "\
 judge: answers test cases from the published code
@@ -118,8 +91,8 @@ fn obey(arguments: &[String]) -> Result<ExitCode, String> {
     match words[..] {
         ["--help" | "-h" | "help"] => write(HELP.as_bytes())?,
         ["answer"] => write(Case::answers(&input()?).concat().as_bytes())?,
-        ["answer", "builds"] => write(builds::answer_stream(&input()?).as_bytes())?,
-        ["answer", "walks"] => write(walks::answer_stream(&input()?).as_bytes())?,
+        ["answer", "builds"] => write(judge::builds::answer_stream(&input()?).as_bytes())?,
+        ["answer", "walks"] => write(judge::walks::answer_stream(&input()?).as_bytes())?,
         ["paths"] => write(PathCase::answers(&input()?).concat().as_bytes())?,
         ["walk"] => write(walk::walk(&input()?).as_bytes())?,
         ["make", what, ..] => make(What::named(what)?, &words[2..])?,
@@ -154,27 +127,27 @@ fn write_file(path: &Path, bytes: &[u8]) -> Result<(), String> {
 }
 
 fn lists(seed: u64, count: usize) -> impl Iterator<Item = Case> {
-    use generate::{lists, stream};
+    use judge::generate::{lists, stream};
     stream(lists::fixed(), lists::random_case, seed, count)
 }
 
 fn paths(seed: u64, count: usize) -> impl Iterator<Item = PathCase> {
-    use generate::{paths, stream};
+    use judge::generate::{paths, stream};
     stream(paths::fixed(), paths::random_case, seed, count)
 }
 
 fn builds(seed: u64, count: usize) -> impl Iterator<Item = BuildCase> {
-    use generate::{build_edges, builds, stream};
+    use judge::generate::{build_edges, builds, stream};
     stream(build_edges::fixed(), builds::random_case, seed, count)
 }
 
 fn walks(seed: u64, count: usize) -> impl Iterator<Item = WalkCase> {
-    use generate::{stream, walk_edges, walks};
+    use judge::generate::{stream, walk_edges, walks};
     stream(walk_edges::fixed(), walks::random_case, seed, count)
 }
 
 fn cascades(seed: u64, count: usize) -> impl Iterator<Item = WalkCase> {
-    use generate::{cascade_edges, cascades, stream};
+    use judge::generate::{cascade_edges, cascades, stream};
     stream(cascade_edges::fixed(), cascades::random_case, seed, count)
 }
 
@@ -195,7 +168,7 @@ fn small<T: Clone>(
             }
         }
     };
-    generate::stream(fixed, random, seed, count)
+    judge::generate::stream(fixed, random, seed, count)
 }
 
 /// Most bytes of a case that is stored, and most words of memory it tells.
@@ -203,7 +176,7 @@ const MOST_STORED: usize = 4000;
 const MOST_TOLD: usize = 4000;
 
 fn small_builds(seed: u64, count: usize) -> impl Iterator<Item = BuildCase> {
-    use generate::{build_edges, builds};
+    use judge::generate::{build_edges, builds};
     let fits = |case: &BuildCase| case.bytes() <= MOST_STORED;
     let fixed = build_edges::fixed();
     small(fixed, builds::random_case, fits, seed, count)
@@ -214,13 +187,13 @@ fn is_small_walk(case: &WalkCase) -> bool {
 }
 
 fn small_walks(seed: u64, count: usize) -> impl Iterator<Item = WalkCase> {
-    use generate::{walk_edges, walks};
+    use judge::generate::{walk_edges, walks};
     let fixed = walk_edges::fixed();
     small(fixed, walks::random_case, is_small_walk, seed, count)
 }
 
 fn small_cascades(seed: u64, count: usize) -> impl Iterator<Item = WalkCase> {
-    use generate::{cascade_edges, cascades};
+    use judge::generate::{cascade_edges, cascades};
     let fixed = cascade_edges::fixed();
     small(fixed, cascades::random_case, is_small_walk, seed, count)
 }
@@ -253,7 +226,7 @@ impl Made {
 }
 
 fn files(seed: u64, count: usize) -> impl Iterator<Item = Vec<u8>> {
-    use generate::{file_edges, files, stream};
+    use judge::generate::{file_edges, files, stream};
     stream(file_edges::fixed(), files::random_file, seed, count)
 }
 
@@ -271,7 +244,7 @@ const MOST_FOR_FAULT: usize = 1200;
 /// Files that are stored: 01's example, one for each fault that a small file
 /// can have, and any small ones.
 fn small_files(seed: u64, count: usize) -> Vec<Vec<u8>> {
-    use generate::{file_edges, files};
+    use judge::generate::{file_edges, files};
     let fixed = file_edges::fixed();
     let mut stored = vec![fixed[0].clone()];
     let mut seen = BTreeSet::new();

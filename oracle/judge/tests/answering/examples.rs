@@ -3,15 +3,15 @@
 
 use std::collections::BTreeSet;
 
-use crate::batches::{Batch, Form, bytes_of, path_batches};
-use crate::generate::files::worked_example;
-use crate::generate::random::Random;
-use crate::generate::{all_lists, lists, paths, stream};
-use crate::paths::{PathCase, answer_stream};
-use crate::records::Record::{self, *};
-use crate::records::file_of;
-use crate::walk::walk;
-use crate::words::{Case, answer, answer_batch};
+use judge::batches::{Batch, Form, bytes_of, path_batches};
+use judge::generate::files::worked_example;
+use judge::generate::random::Random;
+use judge::generate::{all_lists, lists, paths, stream};
+use judge::paths::{PathCase, answer_stream};
+use judge::records::Record::{self, *};
+use judge::records::file_of;
+use judge::walk::walk;
+use judge::words::{Case, answer, answer_batch};
 
 const A: u32 = 1;
 const B: u32 = 2;

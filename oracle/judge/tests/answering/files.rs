@@ -3,12 +3,12 @@
 
 use std::collections::{BTreeMap, BTreeSet};
 
-use crate::faults::Fault;
-use crate::generate::files::{random_file, worked_example};
-use crate::generate::{file_edges, stream};
-use crate::records::Record::{self, *};
-use crate::records::{file_of, pieces, read};
-use crate::walk::{walk, walked};
+use judge::faults::Fault;
+use judge::generate::files::{random_file, worked_example};
+use judge::generate::{file_edges, stream};
+use judge::records::Record::{self, *};
+use judge::records::{file_of, pieces, read};
+use judge::walk::{walk, walked};
 
 const TYPE: u8 = 0;
 const PART: u8 = 1;

@@ -3,16 +3,16 @@
 
 use std::collections::BTreeMap;
 
-use crate::batches::{Form, build_batches, bytes_of};
-use crate::builds::image::{self, NEXT, SHEET_WORDS, rule_word, step_word};
-use crate::builds::{BuildCase, Item, Machine, STORE, answer_stream};
-use crate::generate::build_edges::{clauses, fixed};
-use crate::generate::builds::{
+use judge::batches::{Form, build_batches, bytes_of};
+use judge::builds::image::{self, NEXT, SHEET_WORDS, rule_word, step_word};
+use judge::builds::{BuildCase, Item, Machine, STORE, answer_stream};
+use judge::generate::build_edges::{clauses, fixed};
+use judge::generate::builds::{
     Entries, Given, Group, ROOM, cascade, case, fixed_ends, group, item, look, new, random_case,
     random_end, read, read_rule, rule, store, style,
 };
-use crate::generate::random::Random;
-use crate::generate::stream;
+use judge::generate::random::Random;
+use judge::generate::stream;
 
 /// What is printed for a case, without its first two lines.
 fn printed(items: &[Item]) -> String {

@@ -3,21 +3,21 @@
 
 use std::collections::BTreeMap;
 
-use crate::batches::{Form, bytes_of, walk_batches};
-use crate::builds::Item;
-use crate::builds::model::{Model, Rule};
-use crate::generate::cascade_edges::{
+use judge::batches::{Form, bytes_of, walk_batches};
+use judge::builds::Item;
+use judge::builds::model::{Model, Rule};
+use judge::generate::cascade_edges::{
     entry, equal_sheet, example_sheet, example_walk, fixed, rule, start, walk_example,
 };
-use crate::generate::cascade_lists::{affected, compare, has, set, union};
-use crate::generate::cascades::{changed, channels, random_case, resources, winner};
-use crate::generate::paths::Tags;
-use crate::generate::random::Random;
-use crate::generate::stream;
-use crate::generate::walk_edges::S;
-use crate::generate::walks::{AMPLE, ROOM, enter, rooms, sheet, stored, write};
-use crate::walks::image::{HEAD, MATCHED, STATE_ROWS};
-use crate::walks::{CHANGED, Machine, WINNER, WalkCase, answer_stream};
+use judge::generate::cascade_lists::{affected, compare, has, set, union};
+use judge::generate::cascades::{changed, channels, random_case, resources, winner};
+use judge::generate::paths::Tags;
+use judge::generate::random::Random;
+use judge::generate::stream;
+use judge::generate::walk_edges::S;
+use judge::generate::walks::{AMPLE, ROOM, enter, rooms, sheet, stored, write};
+use judge::walks::image::{HEAD, MATCHED, STATE_ROWS};
+use judge::walks::{CHANGED, Machine, WINNER, WalkCase, answer_stream};
 
 fn printed(items: &[Item]) -> String {
     let words: Vec<u32> = items.iter().flat_map(Item::words).collect();

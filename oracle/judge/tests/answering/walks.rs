@@ -3,22 +3,22 @@
 
 use std::collections::BTreeMap;
 
-use crate::batches::{Form, bytes_of, walk_batches};
-use crate::builds::Item;
-use crate::builds::model::Rule;
-use crate::generate::paths::Tags;
-use crate::generate::random::Random;
-use crate::generate::stream;
-use crate::generate::walk_edges::{
+use judge::batches::{Form, bytes_of, walk_batches};
+use judge::builds::Item;
+use judge::builds::model::Rule;
+use judge::generate::paths::Tags;
+use judge::generate::random::Random;
+use judge::generate::stream;
+use judge::generate::walk_edges::{
     S, all_clauses, fixed, p8, small_table, start, subject_a, subject_b, subject_c, walk_example,
 };
-use crate::generate::walks::{
+use judge::generate::walks::{
     AMPLE, ROOM, body, build, enter, enter_row, fixed_ends, group, part, random_case, random_end,
     rooms, root, stored, tell, write,
 };
-use crate::walks::image::{HEAD, Lent, STATE_ROWS, TRANSITION_ROWS};
-use crate::walks::table::Row;
-use crate::walks::{ENTER, Machine, PART, WalkCase, answer_stream};
+use judge::walks::image::{HEAD, Lent, STATE_ROWS, TRANSITION_ROWS};
+use judge::walks::table::Row;
+use judge::walks::{ENTER, Machine, PART, WalkCase, answer_stream};
 
 fn printed(items: &[Item]) -> String {
     let words: Vec<u32> = items.iter().flat_map(Item::words).collect();
@@ -496,7 +496,7 @@ fn ends_of_a_stream() {
     }
     // A payload cut short reads as zeros.
     let lines = "build 11\nenter 11\npart 11\nlist\nrules\nh\ns\nc\nm\nt\nroot 0 0\n";
-    let items = [3, 4, 5, 6, 7, 8].map(|op| crate::generate::builds::item(op, &[]));
+    let items = [3, 4, 5, 6, 7, 8].map(|op| judge::generate::builds::item(op, &[]));
     assert_eq!(printed(&items), lines);
 }
 
