@@ -109,7 +109,7 @@ step-matches-determined s x = told-determined matching-distinct (stepMatching s 
 pub step-specificity-determined : (ranking : ℕ) (s : SelectorStep) → Determined (λ r. weighingTold r ≡ stepWeighing ranking s)
 step-specificity-determined ranking s = told-determined weighing-distinct (stepWeighing ranking s)
 
--- ---- style
+-- ---- lookups
 
 module _ (properties kinds numbers : List ℕ) (n : ℕ) where
   pub len-determined : Determined (λ r. lengthTold r ≡ styleAnswer properties kinds numbers n (0 ∷ n ∷ []))
