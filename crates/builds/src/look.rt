@@ -119,10 +119,10 @@ fn of_property(
     out: &mut [u8],
     at: usize,
 ) -> usize {
-    let a = contains(out, at, style::contains(p, k, n, count, property));
-    let b = position(out, a, style::position(p, k, n, count, property));
-    let c = value_kind(out, b, style::value_kind(p, k, n, count, property));
-    value_ref(out, c, style::value_ref(p, k, n, count, property))
+    let a = contains(out, at, lookups::contains(p, k, n, count, property));
+    let b = position(out, a, lookups::position(p, k, n, count, property));
+    let c = value_kind(out, b, lookups::value_kind(p, k, n, count, property));
+    value_ref(out, c, lookups::value_ref(p, k, n, count, property))
 }
 
 // All seven lines.
@@ -136,9 +136,9 @@ fn look(
     at: usize,
 ) -> usize {
     let d = of_property(p, k, n, count, property, out, at);
-    let e = resource_key(out, d, style::resource_key(p, k, n, count, property));
-    let f = len(out, e, style::len(p, k, n, count));
-    ids(out, f, style::property_ids(p, k, n, count))
+    let e = resource_key(out, d, lookups::resource_key(p, k, n, count, property));
+    let f = len(out, e, lookups::len(p, k, n, count));
+    ids(out, f, lookups::property_ids(p, k, n, count))
 }
 
 // The look-ups on lent lists.

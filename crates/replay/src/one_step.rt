@@ -2,14 +2,14 @@
 use crate::say::wide;
 use lent::Refusal;
 use lines::text;
+use owned::SelectorInputsOwned;
+use owned::Verdict;
 use screen::labelled;
 use selector::Matching;
 use selector::Specificity;
 use selector::Weighing;
 use steps::SelectorStep;
 use typed::SelectorInputs;
-use typed::SelectorInputsOwned;
-use typed::Verdict;
 
 fn refused(out: &mut [u8], at: usize, refusal: Refusal) -> usize {
     labelled(out, at, b" refused ", wide(refusal.number()))

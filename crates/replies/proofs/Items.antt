@@ -20,8 +20,9 @@ use Rattle.typed.specs.declared.PseudoClassId.{PseudoClassId}
 use Rattle.typed.specs.declared.TypeChoice.{TypeChoice}
 use Rattle.typed.specs.declared.PartChoice.{PartChoice}
 use Rattle.typed.specs.declared.SelectorInputs.{SelectorInputs}
-use Rattle.typed.specs.declared.SelectorInputsOwned.{SelectorInputsOwned}
-use Rattle.typed.specs.Typed.{classNumber, pseudoNumber, inputsTags, inputsRow, inputsFrom, rowType, rowPart, classesFrom, pseudosFrom, ownedVerdict, ownedOf, ownedInputs, Owned}
+use Rattle.typed.specs.Typed.{classNumber, pseudoNumber, inputsTags, inputsRow, inputsFrom, rowType, rowPart, classesFrom, pseudosFrom}
+use Rattle.owned.specs.declared.SelectorInputsOwned.{SelectorInputsOwned}
+use Rattle.owned.specs.Owned.{ownedVerdict, ownedOf, ownedInputs, Owned}
 use Rattle.covered.specs.Rooms.{Proper}
 use Rattle.covered.proofs.Accepted.{row-tags}
 use Rattle.records.specs.Rows.{emptyRow, withItem, itemOver}

@@ -1,7 +1,7 @@
 use borrow.Author.Needs.{needs}
-use Rattle.style.proofs.Answers.{places}
-use Rattle.style.proofs.value_ref.Statement.{statement}
-use Rattle.style.proofs.value_ref.Tie as tie
+use Rattle.lookups.proofs.Answers.{places}
+use Rattle.lookups.proofs.resource_key.Statement.{statement}
+use Rattle.lookups.proofs.resource_key.Tie as tie
 
 position-requires : tie.Need-position-requires
 position-requires c κs = search needs
@@ -21,8 +21,8 @@ wide-requires-2 c κs = search needs
 word-requires-2 : tie.Need-word-requires-2
 word-requires-2 c κs = search needs
 
-plain-of-requires : tie.Need-plain-of-requires
-plain-of-requires c κs = search needs
+resource-of-requires : tie.Need-resource-of-requires
+resource-of-requires c κs = search needs
 
 enum-told : tie.Need-enum-told
 enum-told c = search needs
@@ -39,8 +39,8 @@ returns-2 c = search (places, needs)
 returns-3 : tie.Need-returns-3
 returns-3 c = search (places, needs)
 
-pub value-ref-spec : {M : Type 1} → statement M
-value-ref-spec =
+pub resource-key-spec : {M : Type 1} → statement M
+resource-key-spec =
     tie.close
     (tie.spec
     position-requires
@@ -49,7 +49,7 @@ value-ref-spec =
     word-requires
     wide-requires-2
     word-requires-2
-    plain-of-requires
+    resource-of-requires
     enum-told
     enum-known-r
     returns

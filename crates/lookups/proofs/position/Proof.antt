@@ -1,8 +1,8 @@
 use borrow.Author.Needs.{needs}
-use Rattle.style.proofs.CheckLaws.{accepted}
-use Rattle.style.proofs.Answers.{verdicts}
-use Rattle.style.proofs.position.Statement.{statement}
-use Rattle.style.proofs.position.Tie as tie
+use Rattle.lookups.proofs.Accepted.{accepted}
+use Rattle.lookups.proofs.Answers.{verdicts}
+use Rattle.lookups.proofs.position.Statement.{statement}
+use Rattle.lookups.proofs.position.Tie as tie
 
 verdict-requires : tie.Need-verdict-requires
 verdict-requires c κs = search needs

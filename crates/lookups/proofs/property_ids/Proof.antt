@@ -1,9 +1,9 @@
 use mathlib.Core.Path.{refl}
 use native.Mathlib.Omega.{arith}
 use borrow.Author.Needs.{needs}
-use Rattle.style.proofs.Answers.{ids-none, ids-short, ids-all}
-use Rattle.style.proofs.property_ids.Statement.{statement}
-use Rattle.style.proofs.property_ids.Tie as tie
+use Rattle.lookups.proofs.Answers.{ids-none, ids-short, ids-all}
+use Rattle.lookups.proofs.property_ids.Statement.{statement}
+use Rattle.lookups.proofs.property_ids.Tie as tie
 
 verdict-requires : tie.Need-verdict-requires
 verdict-requires c κs = search needs

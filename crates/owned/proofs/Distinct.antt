@@ -3,14 +3,14 @@ use mathlib.Core.Path.{_≡_, refl, sym, ap, _∙_}
 use mathlib.Core.List.{List}
 use Prim.Native.Nat.{ℕ}
 use Rattle.lent.proofs.Refusals.{readBack, read-refused}
-use Rattle.typed.specs.declared.Verdict.{Verdict}
-use Rattle.typed.specs.declared.Verdict.the-variants.{Accepted, Refused}
+use Rattle.owned.specs.declared.Verdict.{Verdict}
+use Rattle.owned.specs.declared.Verdict.the-variants.{Accepted, Refused}
 use Rattle.typed.specs.declared.ClassId.{ClassId}
 use Rattle.typed.specs.declared.PseudoClassId.{PseudoClassId}
 use Rattle.typed.specs.declared.TypeChoice.{TypeChoice}
 use Rattle.typed.specs.declared.PartChoice.{PartChoice}
-use Rattle.typed.specs.declared.SelectorInputsOwned.{SelectorInputsOwned}
-use Rattle.typed.specs.Typed.{verdictTold, Owned}
+use Rattle.owned.specs.declared.SelectorInputsOwned.{SelectorInputsOwned}
+use Rattle.owned.specs.Owned.{verdictTold, Owned}
 
 readVerdict : List ℕ → Verdict
 readVerdict = readBack (λ l. Accepted) Refused

@@ -1,8 +1,8 @@
 use borrow.Author.Needs.{needs}
 use Rattle.selector.proofs.RowLaws.{words-few}
-use Rattle.typed.proofs.Laws.{sorted-fits, sorted-spelled}
-use Rattle.typed.proofs.sorted_row.Statement.{statement}
-use Rattle.typed.proofs.sorted_row.Tie as tie
+use Rattle.owned.proofs.Laws.{sorted-fits, sorted-spelled}
+use Rattle.owned.proofs.sorted_row.Statement.{statement}
+use Rattle.owned.proofs.sorted_row.Tie as tie
 
 slice-aggregate-ids : tie.Need-slice-aggregate-ids
 slice-aggregate-ids c = search needs

@@ -1,7 +1,7 @@
 use borrow.Author.Needs.{needs}
-use Rattle.typed.proofs.Laws.{owned-classes, owned-pseudos, owned-class-count, owned-pseudo-count, owned-accepted}
-use Rattle.typed.proofs.SelectorInputsOwned.with_part.Statement.{statement}
-use Rattle.typed.proofs.SelectorInputsOwned.with_part.Tie as tie
+use Rattle.owned.proofs.Laws.{owned-classes, owned-pseudos, owned-class-count, owned-pseudo-count, owned-accepted}
+use Rattle.owned.proofs.SelectorInputsOwned.with_part.Statement.{statement}
+use Rattle.owned.proofs.SelectorInputsOwned.with_part.Tie as tie
 
 over-size-requires : tie.Need-over-size-requires
 over-size-requires c κs = search needs

@@ -1,7 +1,7 @@
 use borrow.Author.Needs.{needs}
-use Rattle.style.proofs.Answers.{places}
-use Rattle.style.proofs.value_kind.Statement.{statement}
-use Rattle.style.proofs.value_kind.Tie as tie
+use Rattle.lookups.proofs.Answers.{places}
+use Rattle.lookups.proofs.value_ref.Statement.{statement}
+use Rattle.lookups.proofs.value_ref.Tie as tie
 
 position-requires : tie.Need-position-requires
 position-requires c κs = search needs
@@ -21,8 +21,8 @@ wide-requires-2 c κs = search needs
 word-requires-2 : tie.Need-word-requires-2
 word-requires-2 c κs = search needs
 
-kind-of-requires : tie.Need-kind-of-requires
-kind-of-requires c κs = search (places, needs)
+plain-of-requires : tie.Need-plain-of-requires
+plain-of-requires c κs = search needs
 
 enum-told : tie.Need-enum-told
 enum-told c = search needs
@@ -39,8 +39,8 @@ returns-2 c = search (places, needs)
 returns-3 : tie.Need-returns-3
 returns-3 c = search (places, needs)
 
-pub value-kind-spec : {M : Type 1} → statement M
-value-kind-spec =
+pub value-ref-spec : {M : Type 1} → statement M
+value-ref-spec =
     tie.close
     (tie.spec
     position-requires
@@ -49,7 +49,7 @@ value-kind-spec =
     word-requires
     wide-requires-2
     word-requires-2
-    kind-of-requires
+    plain-of-requires
     enum-told
     enum-known-r
     returns
