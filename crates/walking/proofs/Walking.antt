@@ -22,7 +22,7 @@ use Rattle.house.specs.Memory.{Refused, WalkedSoFar, FedWalk}
 use Rattle.house.specs.Memory.Refused.{whole, unknown}
 use Rattle.walking.specs.Answering.{PastReply, Answers, Next, Last, Ahead, Ended}
 use Rattle.house.proofs.Walk.{reached-next}
-use Rattle.house.proofs.Front.{tells, rested, frontOf, front-whole, front-unknown, front-cut, none-cut, item-size, item-known, item-room}
+use Rattle.house.proofs.Front.{rested, frontOf, front-whole, front-unknown, front-cut, none-cut, item-size, item-known, item-room}
 use Rattle.walking.proofs.Rows.{ready-after}
 use Rattle.walking.proofs.Long.{refused-short, line-short}
 use Rattle.walking.proofs.Ends.{line-ends, items-ends, table-ends}
@@ -293,11 +293,6 @@ module _ {input : List ℕ} {v : Walked} where
   ahead-none h = ahead-not (record { cut = λ p q e. none-cut input (omega arith) })
 
 -- by what is at the front
-front-waits : (k w : Bool) → (tells k w ≡ 0 → ⊥) → (tells k w ≡ 2 → ⊥) → tells k w ≡ 1
-front-waits true true n o = absurd (n refl)
-front-waits true false n o = refl
-front-waits false w n o = absurd (o refl)
-
 pub ahead-front : {input : List ℕ} {v : Walked} (r : ℕ) → r ≡ frontOf (rested input (v .at)) → v .at < length input → v .ends ≡ false → v .used ≤ 40000 → Ahead input v r
 ahead-front {input} {v} r e l o f =
     let here : r ≡ frontOf (drop (v .at) input) = rw (rest-all input (v .at)) at e in
@@ -305,10 +300,7 @@ ahead-front {input} {v} r e l o f =
     record {
       takes = λ z. (n, front-whole (drop (v .at) input) r here (λ x. omega (arith, z, x)) (λ x. omega (arith, z, x)));
       unknown = λ u. (n, front-unknown (drop (v .at) input) r here u);
-      rests = λ x y. record {
-        cut = λ p q z. rw p at (front-cut (drop (v .at) input) r here
-            (here ∙ front-waits (known (kindOf (drop (v .at) input))) (isWhole (drop (v .at) input)) (λ m. x (here ∙ m)) (λ m. y (here ∙ m))));
-      };
+      rests = λ x y. record { cut = λ p q z. rw p at (front-cut (drop (v .at) input) r here x y) };
     }
 
 -- ---- the ways through the functions
