@@ -10,7 +10,7 @@ use borrow.Author.Tests.{eq-eqb, ne-eqb, not-true, not-false}
 use Rattle.lent.proofs.Pool.{rest-all}
 use Rattle.given.specs.Given.{Group}
 use Rattle.records.specs.declared.Record.{Record}
-use Rattle.records.specs.Records.{known, kindOf, sizeOf, isWhole, recordIn, Narrow}
+use Rattle.records.specs.Records.{kindOf, sizeOf, isWhole, recordIn, Narrow}
 use Rattle.records.proofs.Records.{size-some, whole-room}
 use Rattle.gather.specs.declared.Taken.{Taken}
 use Rattle.gather.specs.Memory.{Takes}
@@ -19,7 +19,7 @@ use Rattle.house.specs.House.{Phase, leads, outcome, printing, reachedIn, reach
 use Rattle.house.specs.Memory.{Refused, phaseOf, Before, phaseLeft, MadeSoFar, FedSheet}
 use Rattle.house.specs.Memory.Refused.{whole, unknown}
 use Rattle.making.specs.Taking.{refusing, moved, nextPhase, Took, Past, TookFront, Ahead, ItemAt, Opens, GoesOn}
-use Rattle.house.proofs.Front.{tells, frontOf, front-whole, front-unknown, front-cut, none-cut, rested, item-known, item-room}
+use Rattle.house.proofs.Front.{frontOf, front-whole, front-unknown, front-cut, none-cut, rested, item-known, item-room}
 use Rattle.house.proofs.Walk.{reached-next}
 use Rattle.making.proofs.Taking.{moved-before, did-refused, did-on, front-taken}
 
@@ -130,11 +130,6 @@ module _ {input : List ℕ} {start : Making} {w₀ : List ℕ} {g₀ : Group} {m
 -- ---- as the code says it
 
 -- what stands ahead
-found-low : (k w : Bool) → tells k w ≤ 2
-found-low true true = omega arith
-found-low true false = omega arith
-found-low false w = omega arith
-
 module _ (input : List ℕ) (m : Making) where
   pub ahead-stops : 1 < m .state → Ahead input m 1
   ahead-stops h = record { takes = λ z. absurd (omega arith); unknown = λ z. absurd (omega arith); cut = λ _ _ l. absurd (omega arith) }
@@ -145,11 +140,10 @@ module _ (input : List ℕ) (m : Making) where
   pub ahead-front : (found : ℕ) → m .state ≤ 1 → m .at < length input → found ≡ frontOf (rested input (m .at)) → Ahead input m found
   ahead-front found s l e =
       let q : found ≡ frontOf (drop (m .at) input) = rw (rest-all input (m .at)) at e in
-      let low = found-low (known (kindOf (drop (m .at) input))) (isWhole (drop (m .at) input)) in
       record {
         takes = λ z. (s, l, front-whole (drop (m .at) input) found q (λ o. omega (arith, z, o)) (λ o. omega (arith, z, o)));
         unknown = λ u. (s, l, front-unknown (drop (m .at) input) found q u);
-        cut = λ n o _. front-cut (drop (m .at) input) found q (omega (arith, q, low, n, o));
+        cut = λ n o _. front-cut (drop (m .at) input) found q n o;
       }
 
 module _ (input : List ℕ) (at : ℕ) (w : isWhole (drop at input) ≡ true) where
