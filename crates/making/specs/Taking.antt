@@ -63,14 +63,14 @@ pub record Ahead (input : List ℕ) (m : Making) (found : ℕ) : Type 0 where
   pub unknown : found ≡ 2 → (m .state ≤ 1) × (m .at < length input) × (known (kindOf (drop (m .at) input)) ≡ false)
   pub cut : (found ≡ 0 → ⊥) → (found ≡ 2 → ⊥) → m .state ≤ 1 → Cut (drop (m .at) input)
 
--- the record there
+-- the record there, in numbers that fit: a kind of the table, and a place for what follows
 pub record ItemAt (input : List ℕ) (at : ℕ) (r : Record) : Type 0 where
   pub read : r ≡ recordIn (drop at input)
   pub narrow : Narrow r
   pub known : r .kind ≤ 12
   pub room : at + sizeOf (r .kind) < 18446744073709551616
 
--- a sheet's first record was taken, unless the piece begins with none that is whole
+-- a sheet's first record was taken, if none was before and the piece begins with one that is whole
 pub record Opens (input : List ℕ) (m : Making) (w : List ℕ) (g : Group) (m′ : Making) (w′ : List ℕ) : Type 0 where
   pub made : MadeSoFar input m w g m′ w′ g
   pub later : m′ .state ≡ 0 → isWhole (drop (m′ .at) input) ≡ false

@@ -45,7 +45,8 @@ use Rattle.records.specs.Records.{Narrow}
 use Rattle.wording.specs.Lines.{refusedLine, stateLine, changedLine, winnerLine, Said}
 use Rattle.replies.specs.declared.Entered.{Entered}
 use Rattle.replies.specs.Walking.{Walking, walking, subjectOf, printed, itemFault, withFit, enteringVerdict, enterAfter, changedRoom, changingVerdict, winningVerdict, walkingVerdict, acceptedLine, walkingLine, itemsAfter, tableAfter, ends}
-use Rattle.replies.specs.Memory.{Ready, Replies, lostIn, lostEither, entersBy, enteredOf, Takes, item, entering, changing, winning, misplaced, Steps, Tellable, toldLine}
+use Rattle.replies.specs.Memory.{Ready, Replies}
+use Rattle.replies.specs.Steps.{lostIn, lostEither, entersBy, enteredOf, ItemsTaken, item, entering, changing, winning, misplaced, EntersIf, Tellable, toldLine}
 use Rattle.replies.proofs.Items.{emptied, subject-proper, proper-fits, proper-rises}
 
 -- a list of a pool is no longer than the pool
@@ -120,20 +121,20 @@ module _ (head : List ℕ) (k n : ℕ) (e : n ≡ statesIn head) where
 -- the items
 
 module _ (head items : List ℕ) (r : Record) (fault : ℕ) (items′ : List ℕ) where
-  pub takes-item : r .kind ≡ 9 → (fault ≡ itemFault items (r .first)) × (items′ ≡ withFit items (r .first) (r .second)) → Takes head items r fault items′
+  pub takes-item : r .kind ≡ 9 → (fault ≡ itemFault items (r .first)) × (items′ ≡ withFit items (r .first) (r .second)) → ItemsTaken head items r fault items′
   takes-item k f = item k f
 
-  pub takes-enter : r .kind ≡ 10 → length items ≡ 38 → items′ ≡ sets items 0 (replicate 38 0) → fault ≡ lostIn head (r .first) → Takes head items r fault items′
+  pub takes-enter : r .kind ≡ 10 → length items ≡ 38 → items′ ≡ sets items 0 (replicate 38 0) → fault ≡ lostIn head (r .first) → ItemsTaken head items r fault items′
   takes-enter k e z f = entering k f (emptied items items′ e z)
 
 module _ (head items : List ℕ) (r : Record) where
-  pub takes-changed : (fault : ℕ) → r .kind ≡ 11 → fault ≡ lostEither head (r .first) (r .second) → Takes head items r fault items
+  pub takes-changed : (fault : ℕ) → r .kind ≡ 11 → fault ≡ lostEither head (r .first) (r .second) → ItemsTaken head items r fault items
   takes-changed fault k f = changing k f refl
 
-  pub takes-winner : (fault : ℕ) → r .kind ≡ 12 → fault ≡ lostIn head (r .first) → Takes head items r fault items
+  pub takes-winner : (fault : ℕ) → r .kind ≡ 12 → fault ≡ lostIn head (r .first) → ItemsTaken head items r fault items
   takes-winner fault k f = winning k f refl
 
-  pub takes-other : (r .kind ≡ 9 → ⊥) → (r .kind ≡ 10 → ⊥) → (r .kind ≡ 11 → ⊥) → (r .kind ≡ 12 → ⊥) → Takes head items r 10 items
+  pub takes-other : (r .kind ≡ 9 → ⊥) → (r .kind ≡ 10 → ⊥) → (r .kind ≡ 11 → ⊥) → (r .kind ≡ 12 → ⊥) → ItemsTaken head items r 10 items
   takes-other n9 n10 n11 n12 = misplaced n9 n10 n11 n12 refl refl
 
 -- the entering
@@ -160,7 +161,7 @@ entered-child true child = refl
 entered-child false child = refl
 
 module _ (w : List ℕ) (t : Table) (kind parent fault : ℕ) (row : List ℕ) (b : Bool) (e : b ≡ entersBy kind fault) where
-  pub steps-none : not b ≡ true → Steps w t kind parent fault row (record { fault = fault; child = 0 }) t
+  pub steps-none : not b ≡ true → EntersIf w t kind parent fault row (record { fault = fault; child = 0 }) t
   steps-none n =
       let f = not-true b n in
       record { refusal = rw (← e, f); child = rw (← e, f); memory = rw (← e, f) }
@@ -169,7 +170,7 @@ module _ (w : List ℕ) (t : Table) (kind parent fault : ℕ) (row : List ℕ) (
     by-true : entersBy kind fault ≡ true
     by-true = sym e ∙ not-false b n
 
-    pub steps-enter : (x : Settled) (t′ : Table) → Enters w t parent row x t′ → (a : Entered) → a ≡ enteredOf x → Steps w t kind parent fault row a t′
+    pub steps-enter : (x : Settled) (t′ : Table) → Enters w t parent row x t′ → (a : Entered) → a ≡ enteredOf x → EntersIf w t kind parent fault row a t′
     steps-enter x t′ v a q = record {
       refusal = rw (by-true, q, v .answer) (entered-fault (lacksRoom w t parent row) (childOf w t parent row));
       child = rw (by-true, q, v .answer) (entered-child (lacksRoom w t parent row) (childOf w t parent row));
@@ -288,26 +289,26 @@ unfolding refusalOf
 not-ten l n = sym (ne-eqb (firstOf l) 10 (λ e. let t = told-first l 10 n (sym e) (λ z. omega arith) in omega (arith, ap length t)))
 
 -- no entering has refusal 10: its number is not told alone
-pub enter-not-ten : (s : Walking) (a b : ℕ) → false ≡ eqb (enteringVerdict s a) 10
+pub enter-not-ten : (s : Walking) (parent : ℕ) → false ≡ eqb (enteringVerdict s parent) 10
 unfolding enterVerdict
-enter-not-ten s a b = not-ten _ refl
+enter-not-ten s parent = not-ten _ refl
 
 module _ {head items : List ℕ} {r : Record} {fault : ℕ} {items′ : List ℕ} where
-  of-entering : Takes head items r fault items′ → r .kind ≡ 10 → fault ≡ lostIn head (r .first)
+  of-entering : ItemsTaken head items r fault items′ → r .kind ≡ 10 → fault ≡ lostIn head (r .first)
   of-entering (item k f) e = absurd (omega (arith, k, e))
   of-entering (entering k f i) e = f
   of-entering (changing k f i) e = absurd (omega (arith, k, e))
   of-entering (winning k f i) e = absurd (omega (arith, k, e))
   of-entering (misplaced n9 n10 n11 n12 f i) e = absurd (n10 e)
 
-  of-changing : Takes head items r fault items′ → r .kind ≡ 11 → fault ≡ lostEither head (r .first) (r .second)
+  of-changing : ItemsTaken head items r fault items′ → r .kind ≡ 11 → fault ≡ lostEither head (r .first) (r .second)
   of-changing (item k f) e = absurd (omega (arith, k, e))
   of-changing (entering k f i) e = absurd (omega (arith, k, e))
   of-changing (changing k f i) e = f
   of-changing (winning k f i) e = absurd (omega (arith, k, e))
   of-changing (misplaced n9 n10 n11 n12 f i) e = absurd (n11 e)
 
-  of-winning : Takes head items r fault items′ → r .kind ≡ 12 → fault ≡ lostIn head (r .first)
+  of-winning : ItemsTaken head items r fault items′ → r .kind ≡ 12 → fault ≡ lostIn head (r .first)
   of-winning (item k f) e = absurd (omega (arith, k, e))
   of-winning (entering k f i) e = absurd (omega (arith, k, e))
   of-winning (changing k f i) e = absurd (omega (arith, k, e))
@@ -342,14 +343,14 @@ module _ (w h s c m tr items : List ℕ) (g : Ready w (table h s c m tr) items) 
   unfolding stateVerdict notAState
   winner-verdict k = rw (not-broken (g .covered), eq-eqb (stampIn h) (stampIn h) refl) (told-winner (ltb k (statesIn h)))
 
-  module _ (r : Record) (row : List ℕ) (q : r .kind ≡ 10 → row ≡ whole) (fault : ℕ) (items′ : List ℕ) (u : Takes h items r fault items′) where
+  module _ (r : Record) (row : List ℕ) (q : r .kind ≡ 10 → row ≡ whole) (fault : ℕ) (items′ : List ℕ) (u : ItemsTaken h items r fault items′) where
     pub enter-ready : entersBy (r .kind) fault ≡ true → (r .first < statesIn h) × (rowFits 16 row 0 ≡ true) × (tagsAscend (rowAt 16 row 0) ≡ true)
     enter-ready b =
         let k = eqb-true (r .kind) 10 (and-left _ _ b) in
         let z = eqb-true fault 0 (and-right (eqb (r .kind) 10) _ b) in
         (ltb-true (r .first) (statesIn h) (lost-none _ (sym (of-entering u k) ∙ z)), rw (q k) (proper-fits proper), rw (q k) (proper-rises proper))
 
-    module _ (e : Entered) (t′ : Table) (v : Steps w held (r .kind) (r .first) fault row e t′) where
+    module _ (e : Entered) (t′ : Table) (v : EntersIf w held (r .kind) (r .first) fault row e t′) where
       not-entered : (r .kind ≡ 10 → ⊥) → (e .fault ≡ fault) × (t′ ≡ held)
       not-entered n = (rw (ne-eqb (r .kind) 10 n) at (v .refusal), rw (ne-eqb (r .kind) 10 n) at (v .memory))
 
@@ -373,7 +374,7 @@ module _ (w h s c m tr items : List ℕ) (g : Ready w (table h s c m tr) items) 
           let (a, b) = has-room (ltb (r .first) (statesIn h)) (lacksRoom w held (r .first) whole) (sym (enter-fault k) ∙ z) in
           (rw (k, q k, of-entering u k, a, b) at (v .child), rw (k, q k, of-entering u k, a, b) at (v .memory))
 
-      verdict-is : Takes h items r fault items′ → walkingVerdict now r ≡ e .fault
+      verdict-is : ItemsTaken h items r fault items′ → walkingVerdict now r ≡ e .fault
       unfolding walkingVerdict
       verdict-is (item k f) = rw k (sym (not-entered (λ l. omega (arith, k, l)) .0 ∙ f .0))
       verdict-is (entering k f i) = rw k (enter-verdict (r .first) ∙ sym (enter-fault k))
@@ -382,7 +383,7 @@ module _ (w h s c m tr items : List ℕ) (g : Ready w (table h s c m tr) items) 
       verdict-is (misplaced n9 n10 n11 n12 f i) = rw (ne-eqb (r .kind) 9 n9, ne-eqb (r .kind) 10 n10, ne-eqb (r .kind) 11 n11, ne-eqb (r .kind) 12 n12)
           (sym (not-entered n10 .0 ∙ f))
 
-      line-is : Takes h items r fault items′ → e .fault ≡ 0 → acceptedLine now r ≡ toldLine w t′ r (e .child)
+      line-is : ItemsTaken h items r fault items′ → e .fault ≡ 0 → acceptedLine now r ≡ toldLine w t′ r (e .child)
       unfolding acceptedLine toldLine
       line-is (item k f) z = rw k
       line-is (entering k f i) z = rw (k, enter-line k z .0, enter-line k z .1)
@@ -390,7 +391,7 @@ module _ (w h s c m tr items : List ℕ) (g : Ready w (table h s c m tr) items) 
       line-is (winning k f i) z = rw (k, not-entered (λ l. omega (arith, k, l)) .1)
       line-is (misplaced n9 n10 n11 n12 f i) z = rw (ne-eqb (r .kind) 9 n9, ne-eqb (r .kind) 10 n10, ne-eqb (r .kind) 11 n11, ne-eqb (r .kind) 12 n12)
 
-      table-is : Takes h items r fault items′ → t′ ≡ tableAfter now r
+      table-is : ItemsTaken h items r fault items′ → t′ ≡ tableAfter now r
       unfolding tableAfter
       table-is (item k f) = rw k (not-entered (λ l. omega (arith, k, l)) .1)
       table-is (entering k f i) = rw k (enter-memory k)
@@ -398,7 +399,7 @@ module _ (w h s c m tr items : List ℕ) (g : Ready w (table h s c m tr) items) 
       table-is (winning k f i) = rw k (not-entered (λ l. omega (arith, k, l)) .1)
       table-is (misplaced n9 n10 n11 n12 f i) = rw (ne-eqb (r .kind) 10 n10) (not-entered n10 .1)
 
-      items-are : Takes h items r fault items′ → items′ ≡ itemsAfter now r
+      items-are : ItemsTaken h items r fault items′ → items′ ≡ itemsAfter now r
       unfolding itemsAfter
       items-are (item k f) = rw k (f .1)
       items-are (entering k f i) = rw k i

@@ -30,7 +30,8 @@ ghost use Rattle.selector.specs.Rows.{rowAt};
 ghost use Rattle.selector.specs.Checks.{rowFits, tagsAscend};
 ghost use Rattle.wording.specs.Lines.{changedLine, winnerLine, Said, Room};
 ghost use Rattle.replies.specs.Walking.{walking, subjectOf, printed, itemFault, withFit};
-ghost use Rattle.replies.specs.Memory.{Ready, Replies, entersBy, enteredOf, lostIn, lostEither, Takes, Steps, Tellable, toldLine};
+ghost use Rattle.replies.specs.Memory.{Ready, Replies};
+ghost use Rattle.replies.specs.Steps.{entersBy, enteredOf, lostIn, lostEither, ItemsTaken, EntersIf, Tellable, toldLine};
 
 // ---- 9
 
@@ -106,7 +107,7 @@ fn take_enter(
 ) -> Entered
     requires { ⌜ Covered (now sheet) (table (now head) (now states) (now cursors) (now matched) (now transitions)) ⌝ }
     requires { ⌜ (entersBy kind fault ≡ true → (parent < statesIn (now head)) × (rowFits 16 (now row) 0 ≡ true) × (tagsAscend (rowAt 16 (now row) 0) ≡ true)) ⌝ }
-    ensures { λ r. ⌜ Steps (now (sheet .entry)) (table (now (head .entry)) (now (states .entry)) (now (cursors .entry)) (now (matched .entry)) (now (transitions .entry))) kind parent fault (now (row .entry)) r (table (now (head .exit)) (now (states .exit)) (now (cursors .exit)) (now (matched .exit)) (now (transitions .exit))) ⌝ }
+    ensures { λ r. ⌜ EntersIf (now (sheet .entry)) (table (now (head .entry)) (now (states .entry)) (now (cursors .entry)) (now (matched .entry)) (now (transitions .entry))) kind parent fault (now (row .entry)) r (table (now (head .exit)) (now (states .exit)) (now (cursors .exit)) (now (matched .exit)) (now (transitions .exit))) ⌝ }
 {
     if !enters(kind, fault) {
         return Entered { fault, child: 0 };
@@ -242,7 +243,7 @@ fn lost_either(head: &[u32], old: u32, new: u32) -> u32
 // The items after a record, and its refusal as far as it is known before the call.
 fn take_items(head: &[u32], items: &mut [u32], item: Record) -> u32
     requires { ⌜ length (now items) ≡ 38 ⌝ }
-    ensures { λ r. ⌜ Takes (now (head .entry)) (now (items .entry)) item r (now (items .exit)) ⌝ }
+    ensures { λ r. ⌜ ItemsTaken (now (head .entry)) (now (items .entry)) item r (now (items .exit)) ⌝ }
 {
     let kind = item.kind;
     match kind {

@@ -27,7 +27,7 @@ pub record Answers (bytes w : List ℕ) (t : Table) (items : List ℕ) (v : Walk
   pub goes : r .ends ≡ false → r .at ≡ v .at + sizeOf (kindOf bytes)
   pub reach : r .ends ≡ false → v .offset + sizeOf (kindOf bytes) < 18446744073709551616 → r .offset ≡ v .offset + sizeOf (kindOf bytes)
 
--- there is a step to take: something is left, and a line more has room
+-- something is left, the program goes on, and a line more has room
 pub record Next (input : List ℕ) (v : Walked) : Type 0 where
   pub left : v .at < length input
   pub opened : v .ends ≡ false

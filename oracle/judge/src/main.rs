@@ -50,9 +50,10 @@ judge: answers test cases from the published code
       input, one a run and as many runs at once as there are cores, and
       compares its output with the judge's byte for byte; a file that differs
       is kept in FILE, made small. A command that serves is started once for
-      each core, and for each byte that it reads it answers the file `in` of
-      the current folder by the file `out` and then writes 4 bytes, how the
-      process that did so ended (tools/served.c)
+      each core, in a folder with document 01's example, the file `sample`; for
+      each byte that it reads it answers the file `in` there by the file `out`
+      and then writes 4 bytes, how the process that did so ended
+      (tools/served.c)
   judge store lists|paths|builds|walks|cascades --seed N --count N
               --cases FILE --answers FILE
       writes N cases and the judge's answers to them; of builds, walks and

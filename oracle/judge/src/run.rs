@@ -8,6 +8,9 @@ use std::path::PathBuf;
 use std::process::{Child, Command, ExitStatus, Stdio, id};
 use std::thread;
 
+use crate::generate::files::worked_example;
+use crate::records::file_of;
+
 /// What a command left behind.
 pub struct Output {
     pub bytes: Vec<u8>,
@@ -61,9 +64,10 @@ impl Output {
 pub enum Way<'a> {
     /// Anew for each input.
     Each(&'a str),
-    /// Started once, in a folder of its own. For each byte on its standard
-    /// input it answers the folder's file `in` by the file `out`, and then
-    /// writes how the process that did so ended, in 4 bytes.
+    /// Started once, in a folder of its own with document 01's example, the
+    /// file `sample`. For each byte on its standard input it answers the
+    /// folder's file `in` by the file `out`, and then writes how the process
+    /// that did so ended, in 4 bytes.
     Served(&'a str),
 }
 
@@ -87,6 +91,8 @@ impl<'a> Runner<'a> {
         let trouble = |error| format!("could not start `{command}`: {error}");
         let folder = temp_dir().join(format!("judge-{}-{number}", id()));
         fs::create_dir(&folder).map_err(trouble)?;
+        let sample = file_of(&worked_example());
+        fs::write(folder.join("sample"), sample).map_err(trouble)?;
         let child = Command::new("sh")
             .args(["-c", command])
             .current_dir(&folder)
@@ -113,16 +119,19 @@ impl<'a> Runner<'a> {
                 let (to, from) = (child.stdin.as_mut(), child.stdout.as_mut());
                 let to = to.expect("standard input was asked for");
                 let from = from.expect("standard output was asked for");
-                fs::write(folder.join("in"), input).map_err(trouble)?;
+                let (input_file, output_file) = (folder.join("in"), folder.join("out"));
+                fs::write(input_file, input).map_err(trouble)?;
                 to.write_all(b".").map_err(trouble)?;
                 to.flush().map_err(trouble)?;
                 let mut ended = [0; 4];
                 from.read_exact(&mut ended).map_err(trouble)?;
-                let bytes = fs::read(folder.join("out")).map_err(trouble)?;
                 let status = ExitStatus::from_raw(i32::from_le_bytes(ended));
                 if status.code() == Some(126) {
                     return Err(format!("`{command}` could not open its files"));
                 }
+                let bytes = fs::read(&output_file).map_err(trouble)?;
+                // What the next run leaves is its own.
+                fs::remove_file(output_file).map_err(trouble)?;
                 Ok(Output::new(bytes, status))
             }
         }
