@@ -2,120 +2,78 @@
 use mathlib.Core.Path.{_≡_, refl, sym, ap, _∙_}
 use mathlib.Core.Bool.{Bool, true, false, _||_}
 use mathlib.Core.Logic.{inl, inr}
-use mathlib.Core.List.{List, _++_, List·Memᴰ·head}
+use mathlib.Core.List.{List}
 use Prim.Native.Nat.{ℕ, _+_, _-_, _/_, _≤_, _<_}
 use native.Mathlib.Omega.{arith}
 use lib.ListN.{length, getD, take, drop, take-append-drop}
-use lib.Seq.{length-take-le, drop-cons}
+use lib.Seq.{length-take-le}
 use lib.Dec.{ltb}
 use borrow.Author.Tests.{lt-ltb, le-ltb, ltb-true, ltb-false}
-use Rattle.theory.specs.Lists.{_∈_, ascends}
+use Rattle.theory.specs.Lists.{ascends}
 use Rattle.theory.specs.States.{State, root, enter}
-use Rattle.theory.proofs.Lists.{append-in, or-cases, or-first, or-second}
+use Rattle.theory.proofs.Lists.{or-cases, or-first, or-second}
 use Rattle.idset.specs.Buffers.{Holds}
 use Rattle.idset.proofs.Buffers.{held-take}
 use Rattle.selector.specs.Tags.{Tags, stepMatches}
 use Rattle.table.specs.Tables.{selectorsOf}
 use Rattle.advance.specs.Advancing.{leaves, lists, Advanced, Room}
-use Rattle.advance.specs.Collecting.{Free, Puts, Walks, First, Turned}
+use Rattle.advance.specs.Collecting.{Free, Puts, Walks, Least, Turned}
 use Rattle.advance.proofs.Putting.{past-later}
 use Rattle.advance.proofs.Cursors.{one-free}
-use Rattle.advance.proofs.Walking.{Step, step-first, step-swap, skip-same, walk-start, walk-free, walk-next, walk-skip, walk-end}
+use Rattle.advance.proofs.Walking.{least-first, least-swap, least-both, walk-start, walk-free, walk-next, walk-end}
 use Rattle.advance.proofs.Range.{rises-left, rises-listed}
 
-first-in : (l : List ℕ) (i : ℕ) → i < length l → getD l i 0 ∈ drop i l
-first-in l i h = rw (drop-cons l i 0 h) (List·Memᴰ·head refl)
-
-module _ {w : List ℕ} {x : Tags} {a b next listed : List ℕ} {i j n k : ℕ} (s : Walks w x a b next listed i j n k) where
+module _ {w : List ℕ} {x : Tags} {a b next listed : List ℕ} {i j n k c i′ j′ : ℕ} (s : Walks w x a b next listed i j n k) (l : Least a b i j c i′ j′) where
   -- ---- as `put_one` asks
 
-  module _ (h : First a b i j) where
-    parent-in : getD a i 0 ∈ (drop i a ++ drop j b)
-    parent-in = append-in (drop i a) (drop j b) (getD a i 0) .1 (inl (first-in a i (h .there)))
+  pub least-cursors : Free 2 c next n
+  least-cursors = walk-free (s .left) c (l .each c .1 (inl refl))
 
-    pub parent-cursors : Free 2 (getD a i 0) next n
-    parent-cursors = walk-free (s .left) (getD a i 0) parent-in
-
-    pub parent-rules : Free 1 (getD a i 0 / 8) listed k
-    parent-rules = one-free (walk-free (s .listed-so) (getD a i 0) parent-in)
-
-  module _ (h : First b a j i) where
-    root-in : getD b j 0 ∈ (drop i a ++ drop j b)
-    root-in = append-in (drop i a) (drop j b) (getD b j 0) .1 (inr (first-in b j (h .there)))
-
-    pub root-cursors : Free 2 (getD b j 0) next n
-    root-cursors = walk-free (s .left) (getD b j 0) root-in
-
-    pub root-rules : Free 1 (getD b j 0 / 8) listed k
-    root-rules = one-free (walk-free (s .listed-so) (getD b j 0) root-in)
+  pub least-rules : Free 1 (c / 8) listed k
+  least-rules = one-free (walk-free (s .listed-so) c (l .each c .1 (inl refl)))
 
   -- ---- a turn
 
-  module _ {next′ listed′ : List ℕ} {n′ k′ : ℕ} (ln : length next′ ≡ length next) (ll : length listed′ ≡ length listed) where
-    took : {c i′ j′ : ℕ} → Step a b i j c i′ j′ → i′ ≤ length a → j′ ≤ length b → i + j < i′ + j′
-        → Puts next n (leaves w x c) next′ n′ listed k (lists w x c) listed′ k′
-        → Turned w x a b next listed i j n k next′ listed′ i′ j′ n′ k′
-    took step h g up p = record {
-      walks = record {
-        up-a = s .up-a;
-        up-b = s .up-b;
-        in-a = h;
-        in-b = g;
-        left = walk-next (s .left) (rises-left w x) step (p .cursors) ln;
-        listed-so = walk-next (s .listed-so) (rises-listed w x) step (p .rules) ll;
-      };
-      further = up;
-      more-cursors = p .cursors .more;
-      more-matched = p .rules .more;
-      past-cursors = p .cursors .past;
-      past-matched = p .rules .past;
-    }
-
-    pub took-parent : First a b i j → Puts next n (leaves w x (getD a i 0)) next′ n′ listed k (lists w x (getD a i 0)) listed′ k′
-        → Turned w x a b next listed i j n k next′ listed′ (i + 1) j n′ k′
-    took-parent h p = took (step-first a b i j (s .up-a) (s .up-b) h) (omega (arith, h .there)) (s .in-b) (omega arith) p
-
-    pub took-root : First b a j i → Puts next n (leaves w x (getD b j 0)) next′ n′ listed k (lists w x (getD b j 0)) listed′ k′
-        → Turned w x a b next listed i j n k next′ listed′ i (j + 1) n′ k′
-    took-root h p = took (step-swap (step-first b a j i (s .up-b) (s .up-a) h)) (s .in-a) (omega (arith, h .there)) (omega arith) p
-
-  pub left-out : i < length a → j < length b → getD a i 0 ≡ getD b j 0 → Turned w x a b next listed i j n k next listed (i + 1) j n k
-  left-out h g e = record {
+  pub took : {next′ listed′ : List ℕ} {n′ k′ : ℕ} → length next′ ≡ length next → length listed′ ≡ length listed
+      → Puts next n (leaves w x c) next′ n′ listed k (lists w x c) listed′ k′
+      → Turned w x a b next listed i j n k next′ listed′ i′ j′ n′ k′
+  took ln ll p = record {
     walks = record {
       up-a = s .up-a;
       up-b = s .up-b;
-      in-a = omega arith;
-      in-b = s .in-b;
-      left = walk-skip (s .left) (skip-same a b i j h g e);
-      listed-so = walk-skip (s .listed-so) (skip-same a b i j h g e);
+      in-a = l .in-a (s .in-a);
+      in-b = l .in-b (s .in-b);
+      left = walk-next (s .left) (rises-left w x) l (p .cursors) ln;
+      listed-so = walk-next (s .listed-so) (rises-listed w x) l (p .rules) ll;
     };
-    further = omega arith;
-    more-cursors = omega arith;
-    more-matched = omega arith;
-    past-cursors = refl;
-    past-matched = refl;
+    further = l .further;
+    more-cursors = p .cursors .more;
+    more-matched = p .rules .more;
+    past-cursors = p .cursors .past;
+    past-matched = p .rules .past;
   }
 
--- ---- which of the two is next
+-- ---- which is the lowest, by each way through `lowest`
 
-module _ (a b : List ℕ) (i j : ℕ) (t : (ltb i (length a) || ltb j (length b)) ≡ true) where
-  pub only-parent : length b ≤ j → First a b i j
-  only-parent h = record {
-    there = elim (or-cases (ltb i (length a)) (ltb j (length b)) t) [ inl e ↦ ltb-true i (length a) e | inr e ↦ absurd (omega (arith, ltb-true j (length b) e)) ];
-    least = λ l. absurd (omega arith);
-  }
+module _ (a b : List ℕ) (i j : ℕ) where
+  pub parent-left : (ltb i (length a) || ltb j (length b)) ≡ true → length b ≤ j → i < length a
+  parent-left t h = elim (or-cases (ltb i (length a)) (ltb j (length b)) t) [ inl e ↦ ltb-true i (length a) e | inr e ↦ absurd (omega (arith, ltb-true j (length b) e)) ]
 
-  pub only-root : length a ≤ i → First b a j i
-  only-root h = record {
-    there = elim (or-cases (ltb i (length a)) (ltb j (length b)) t) [ inl e ↦ absurd (omega (arith, ltb-true i (length a) e)) | inr e ↦ ltb-true j (length b) e ];
-    least = λ l. absurd (omega arith);
-  }
+  module _ (up : (ascends a ≡ true) × (ascends b ≡ true)) where
+    pub only-parent : (ltb i (length a) || ltb j (length b)) ≡ true → length b ≤ j → Least a b i j (getD a i 0) (i + 1) j
+    only-parent t h = least-first a b i j (up .0) (up .1) (parent-left t h) (λ l. absurd (omega arith))
 
-pub first-less : (a b : List ℕ) (i j : ℕ) → i < length a → getD a i 0 < getD b j 0 → First a b i j
-first-less a b i j h l = record { there = h; least = λ g. l }
+    pub only-root : j < length b → length a ≤ i → Least a b i j (getD b j 0) i (j + 1)
+    only-root h g = least-swap (least-first b a j i (up .1) (up .0) h (λ l. absurd (omega arith)))
 
-pub first-more : (a b : List ℕ) (i j : ℕ) → j < length b → getD b j 0 ≤ getD a i 0 → (getD a i 0 ≡ getD b j 0 → ⊥) → First b a j i
-first-more a b i j h l ne = record { there = h; least = λ g. omega arith }
+    pub parent-less : i < length a → getD a i 0 < getD b j 0 → Least a b i j (getD a i 0) (i + 1) j
+    parent-less h l = least-first a b i j (up .0) (up .1) h (λ g. l)
+
+    pub root-less : j < length b → getD b j 0 < getD a i 0 → Least a b i j (getD b j 0) i (j + 1)
+    root-less h l = least-swap (least-first b a j i (up .1) (up .0) h (λ g. l))
+
+    pub both-same : i < length a → j < length b → getD b j 0 ≤ getD a i 0 → getD a i 0 ≤ getD b j 0 → Least a b i j (getD a i 0) (i + 1) (j + 1)
+    both-same h g l m = least-both a b i j (up .0) (up .1) h g (omega arith)
 
 -- whether one is left
 pub goes-parent : (i n : ℕ) (b : Bool) → i < n → true ≡ (ltb i n || b)

@@ -12,14 +12,10 @@ use lib.Seq.{length-take-le, drop-cons}
 use Rattle.theory.specs.Lists.{_∈_, Ascending, ascends, sort}
 use Rattle.theory.proofs.Lists.{append-in, flatMap-in, sort-in, sort-ascending, ascends-is}
 use Rattle.idset.proofs.Ascending.{ascends-drop}
-use Rattle.advance.specs.Collecting.{Free, Put, Walk, First}
+use Rattle.advance.specs.Collecting.{Free, Put, Walk, Least}
 use Rattle.advance.proofs.Putting.{sort-ext, sort-ascended, ascending-length}
 
--- ---- a step: the cursor c is taken, and all that are left are above it
-
-pub record Step (a b : List ℕ) (i j c i′ j′ : ℕ) : Type 0 where
-  pub each : (k : ℕ) → (k ∈ (drop i a ++ drop j b)) ↔ ((k ≡ c) ⊎ (k ∈ (drop i′ a ++ drop j′ b)))
-  pub above : (k : ℕ) → k ∈ (drop i′ a ++ drop j′ b) → c < k
+-- ---- which is the lowest
 
 -- what is left of an ascending list, from its first on
 from-first : (l : List ℕ) (i : ℕ) → ascends l ≡ true → i < length l → Ascending (getD l i 0 ∷ drop (suc i) l)
@@ -31,49 +27,59 @@ left-above l j c e h k m = elim (decLt j (length l)) [
   | no s ↦ let z : length l ≤ j = omega arith in absurd (List·Memᴰ·not-nil (rw (drop-of-length-le l z) at m))
 ]
 
-pub step-first : (a b : List ℕ) (i j : ℕ) → ascends a ≡ true → ascends b ≡ true → First a b i j → Step a b i j (getD a i 0) (i + 1) j
-step-first a b i j e f t = let h = t .there in rw (add-one i) (record {
+-- that of the first list, before all that are left of the second
+pub least-first : (a b : List ℕ) (i j : ℕ) → ascends a ≡ true → ascends b ≡ true → i < length a → (j < length b → getD a i 0 < getD b j 0) → Least a b i j (getD a i 0) (i + 1) j
+least-first a b i j e f h g = rw (add-one i) (record {
   each = λ k. rw (drop-cons a i 0 h) (λ m. List·Memᴰ·cases-cons m, elim [ inl q ↦ List·Memᴰ·head q | inr m ↦ List·Memᴰ·tail m ]);
-  above = λ k m. elim (append-in (drop (suc i) a) (drop j b) k .0 m) [ inl n ↦ from-first a i e h .0 k n | inr n ↦ left-above b j (getD a i 0) f (t .least) k n ];
+  above = λ k m. elim (append-in (drop (suc i) a) (drop j b) k .0 m) [ inl n ↦ from-first a i e h .0 k n | inr n ↦ left-above b j (getD a i 0) f g k n ];
+  in-a = λ l. omega arith;
+  in-b = λ l. l;
+  further = omega arith;
 })
 
 -- the same of the second list
 swap : (l m : List ℕ) (k : ℕ) → k ∈ (l ++ m) → k ∈ (m ++ l)
 swap l m k i = append-in m l k .1 (elim (append-in l m k .0 i) [ inl j ↦ inr j | inr j ↦ inl j ])
 
-pub step-swap : {a b : List ℕ} {i j c i′ j′ : ℕ} → Step b a j i c j′ i′ → Step a b i j c i′ j′
-step-swap {a} {b} {i} {j} {c} {i′} {j′} s = record {
+pub least-swap : {a b : List ℕ} {i j c i′ j′ : ℕ} → Least b a j i c j′ i′ → Least a b i j c i′ j′
+least-swap {a} {b} {i} {j} {c} {i′} {j′} s = record {
   each = λ k. (
     λ m. elim (s .each k .0 (swap (drop i a) (drop j b) k m)) [ inl q ↦ inl q | inr n ↦ inr (swap (drop j′ b) (drop i′ a) k n) ],
     λ m. swap (drop j b) (drop i a) k (s .each k .1 (elim m [ inl q ↦ inl q | inr n ↦ inr (swap (drop i′ a) (drop j′ b) k n) ])),
   );
   above = λ k m. s .above k (swap (drop i′ a) (drop j′ b) k m);
+  in-a = s .in-b;
+  in-b = s .in-a;
+  further = omega (arith, s .further);
 }
 
--- equal cursors: without the first one there are the same
-pub skip-same : (a b : List ℕ) (i j : ℕ) → i < length a → j < length b → getD a i 0 ≡ getD b j 0 → (k : ℕ) → (k ∈ (drop i a ++ drop j b)) ↔ (k ∈ (drop (i + 1) a ++ drop j b))
-skip-same a b i j h g e k = rw (add-one i, drop-cons a i 0 h) (
-  λ m. elim (List·Memᴰ·cases-cons m) [
-    | inl q ↦ append-in (drop (suc i) a) (drop j b) k .1 (inr (rw (drop-cons b j 0 g) (List·Memᴰ·head (q ∙ e))))
-    | inr n ↦ n
+-- that of both
+twice : (c : ℕ) (l m : List ℕ) (k : ℕ) → (k ∈ ((c ∷ l) ++ (c ∷ m))) ↔ ((k ≡ c) ⊎ (k ∈ (l ++ m)))
+twice c l m k = (
+  λ n. elim (append-in (c ∷ l) (c ∷ m) k .0 n) [
+    | inl o ↦ elim (List·Memᴰ·cases-cons o) [ inl q ↦ inl q | inr o′ ↦ inr (append-in l m k .1 (inl o′)) ]
+    | inr o ↦ elim (List·Memᴰ·cases-cons o) [ inl q ↦ inl q | inr o′ ↦ inr (append-in l m k .1 (inr o′)) ]
   ],
-  λ m. List·Memᴰ·tail m,
+  λ n. append-in (c ∷ l) (c ∷ m) k .1 (elim n [
+    | inl q ↦ inl (List·Memᴰ·head q)
+    | inr o ↦ elim (append-in l m k .0 o) [ inl o′ ↦ inl (List·Memᴰ·tail o′) | inr o′ ↦ inr (List·Memᴰ·tail o′) ]
+  ]),
 )
+
+pub least-both : (a b : List ℕ) (i j : ℕ) → ascends a ≡ true → ascends b ≡ true → i < length a → j < length b → getD a i 0 ≡ getD b j 0 → Least a b i j (getD a i 0) (i + 1) (j + 1)
+least-both a b i j e f h g q = rw (add-one i, add-one j) (record {
+  each = λ k. rw (drop-cons a i 0 h, drop-cons b j 0 g, ← q) (twice (getD a i 0) (drop (suc i) a) (drop (suc j) b) k);
+  above = λ k m. elim (append-in (drop (suc i) a) (drop (suc j) b) k .0 m) [ inl n ↦ from-first a i e h .0 k n | inr n ↦ rw q (from-first b j f g .0 k n) ];
+  in-a = λ l. omega arith;
+  in-b = λ l. omega arith;
+  further = omega arith;
+})
 
 -- ---- what is put and what is left make the whole
 
 -- what f brings from a number is at most what g says of all above that
 pub record Rises (f : ℕ → List ℕ) (g : ℕ → ℕ) : Type 0 where
   pub brings : (c k d : ℕ) → k ∈ f c → c < d → k ≤ g d
-
-flat-same : (f : ℕ → List ℕ) (l r r′ : List ℕ) → ((k : ℕ) → (k ∈ r) ↔ (k ∈ r′)) → sort (l ++ flatMap f r) ≡ sort (l ++ flatMap f r′)
-flat-same f l r r′ e = sort-ext (l ++ flatMap f r) (l ++ flatMap f r′) (λ k. (go r r′ (λ c. e c .0) k, go r′ r (λ c. e c .1) k))
-  where
-    go : (r r′ : List ℕ) → ((k : ℕ) → k ∈ r → k ∈ r′) → (k : ℕ) → k ∈ (l ++ flatMap f r) → k ∈ (l ++ flatMap f r′)
-    go r r′ h k m = append-in l (flatMap f r′) k .1 (elim (append-in l (flatMap f r) k .0 m) [
-      | inl i ↦ inl i
-      | inr i ↦ let (c, o, n) = flatMap-in f r k .0 i in inr (flatMap-in f r′ k .1 (c, h c o, n))
-    ])
 
 flat-next : (f : ℕ → List ℕ) (l l′ r r′ : List ℕ) (c : ℕ) → l′ ≡ sort (l ++ f c) → ((k : ℕ) → (k ∈ r) ↔ ((k ≡ c) ⊎ (k ∈ r′))) → sort (l ++ flatMap f r) ≡ sort (l′ ++ flatMap f r′)
 flat-next f l l′ r r′ c s e = rw s (sort-ext (l ++ flatMap f r) (sort (l ++ f c) ++ flatMap f r′) (λ k. (to k, from k)))
@@ -107,7 +113,7 @@ module _ {f : ℕ → List ℕ} {g : ℕ → ℕ} {a b out : List ℕ} {i j used
       some : (k : ℕ) → k ∈ take used out → k ∈ sort (flatMap f (a ++ b))
       some k n = rw (w .whole) (sort-in (take used out ++ flatMap f (drop i a ++ drop j b)) k .1 (append-in (take used out) (flatMap f (drop i a ++ drop j b)) k .1 (inl n)))
 
-  pub walk-next : {c i′ j′ used′ : ℕ} {out′ : List ℕ} → Rises f g → Step a b i j c i′ j′ → Put out used (f c) out′ used′ → length out′ ≡ length out → Walk f g a b out′ i′ j′ used′
+  pub walk-next : {c i′ j′ used′ : ℕ} {out′ : List ℕ} → Rises f g → Least a b i j c i′ j′ → Put out used (f c) out′ used′ → length out′ ≡ length out → Walk f g a b out′ i′ j′ used′
   walk-next {c} {i′} {j′} {used′} {out′} r s p h = record {
     within = p .within;
     up = rw (p .joined) (sort-ascending (take used out ++ f c));
@@ -117,15 +123,6 @@ module _ {f : ℕ → List ℕ} {g : ℕ → ℕ} {a b out : List ℕ} {i j used
     ];
     whole = w .whole ∙ flat-next f (take used out) (take used′ out′) (drop i a ++ drop j b) (drop i′ a ++ drop j′ b) c (p .joined) (s .each);
     room = rw h (w .room);
-  }
-
-  pub walk-skip : {i′ j′ : ℕ} → ((k : ℕ) → (k ∈ (drop i a ++ drop j b)) ↔ (k ∈ (drop i′ a ++ drop j′ b))) → Walk f g a b out i′ j′ used
-  walk-skip {i′} {j′} e = record {
-    within = w .within;
-    up = w .up;
-    low = λ k c m n. w .low k c m (e c .1 n);
-    whole = w .whole ∙ flat-same f (take used out) (drop i a ++ drop j b) (drop i′ a ++ drop j′ b) e;
-    room = w .room;
   }
 
   pub walk-end : length a ≤ i → length b ≤ j → take used out ≡ sort (flatMap f (a ++ b))

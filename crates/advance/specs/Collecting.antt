@@ -1,9 +1,10 @@
 -- Numbers collected along two lists, in the order in which they are put. For contracts within and cores alone. Assumes nothing.
 use mathlib.Core.Path.{_≡_}
 use mathlib.Core.Bool.{true}
+use mathlib.Core.Logic.{_⊎_, _↔_}
 use mathlib.Core.List.{List, _++_, flatMap}
 use Prim.Native.Nat.{ℕ, _+_, _/_, _≤_, _<_}
-use lib.ListN.{length, getD, take, drop}
+use lib.ListN.{length, take, drop}
 use Rattle.theory.specs.Lists.{_∈_, Ascending, ascends, sort}
 use Rattle.selector.specs.Tags.{Tags}
 use Rattle.advance.specs.Advancing.{leaves, lists}
@@ -51,10 +52,13 @@ pub record Walks (w : List ℕ) (x : Tags) (a b next listed : List ℕ) (i j cur
   pub left : Walk (leaves w x) (λ c. c) a b next i j cursors
   pub listed-so : Walk (lists w x) (λ c. c / 8) a b listed i j matched
 
--- the next of the first list is before all that are left of the second
-pub record First (a b : List ℕ) (i j : ℕ) : Type 0 where
-  pub there : i < length a
-  pub least : j < length b → getD a i 0 < getD b j 0
+-- c is the lowest that is left, in one list or in both: with it i′ and j′ are done, and all others are left
+pub record Least (a b : List ℕ) (i j c i′ j′ : ℕ) : Type 0 where
+  pub each : (k : ℕ) → (k ∈ (drop i a ++ drop j b)) ↔ ((k ≡ c) ⊎ (k ∈ (drop i′ a ++ drop j′ b)))
+  pub above : (k : ℕ) → k ∈ (drop i′ a ++ drop j′ b) → c < k
+  pub in-a : i ≤ length a → i′ ≤ length a
+  pub in-b : j ≤ length b → j′ ≤ length b
+  pub further : i + j < i′ + j′
 
 -- a turn: the walk goes on, and past its numbers nothing is written
 pub record Turned (w : List ℕ) (x : Tags) (a b next listed : List ℕ) (i j cursors matched : ℕ) (next′ listed′ : List ℕ) (i′ j′ cursors′ matched′ : ℕ) : Type 0 where

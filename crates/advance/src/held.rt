@@ -20,7 +20,7 @@ ghost use Rattle.selector.specs.Checks.{tagsAscend};
 ghost use Rattle.sheet.specs.Layout.{stepsIn, stepPlace, STEP-COMBINATOR, STEP-WORDS};
 ghost use Rattle.sheet.specs.Shape.{sheetShape};
 ghost use Rattle.advance.specs.Advancing.{leaves, lists, Advanced, Room};
-ghost use Rattle.advance.specs.Collecting.{Free, Put, Kept, Puts, Walks, First, Turned};
+ghost use Rattle.advance.specs.Collecting.{Free, Put, Kept, Puts, Walks, Least, Turned};
 
 // How many cursors and how many rules.
 pub struct Counts {
@@ -33,6 +33,13 @@ struct Done {
     parent: usize,
     root: usize,
     counts: Counts,
+}
+
+// A cursor, and how many of the parent's and of the root's are done with it.
+struct Taken {
+    cursor: u32,
+    parent: usize,
+    root: usize,
 }
 
 // Whether a descendant combinator stands before step s.
@@ -164,57 +171,50 @@ fn put_one(
     )
 }
 
-// The parent's next cursor, before all that are left of the root's.
-fn take_parent(
-    sheet: &[u32],
-    parent: &[u32],
-    root: &[u32],
-    subject: &[u32],
-    next: &mut [u32],
-    listed: &mut [u32],
-    done: Done,
-) -> Done
-    requires { ⌜ sheetShape (now sheet) ≡ true ⌝ }
-    requires { ⌜ tagsAscend (rowAt 16 (now subject) 0) ≡ true ⌝ }
-    requires { ⌜ Walks (now sheet) (rowAt 16 (now subject) 0) (now parent) (now root) (now next) (now listed) (done .parent) (done .root) (done .counts .cursors) (done .counts .matched) ⌝ }
-    requires { ⌜ First (now parent) (now root) (done .parent) (done .root) ⌝ }
-    ensures { λ r. ⌜ Turned (now (sheet .entry)) (rowAt 16 (now (subject .entry)) 0) (now (parent .entry)) (now (root .entry)) (now (next .entry)) (now (listed .entry)) (done .parent) (done .root) (done .counts .cursors) (done .counts .matched) (now (next .exit)) (now (listed .exit)) (r .parent) (r .root) (r .counts .cursors) (r .counts .matched) ⌝ }
+// The lowest cursor that is left. One that stands in both lists is done in both, so that it is put once.
+fn lowest(parent: &[u32], root: &[u32], i: usize, j: usize) -> Taken
+    requires { ⌜ (ascends (now parent) ≡ true) × (ascends (now root) ≡ true) ⌝ }
+    requires { ⌜ (ltb i (length (now parent)) || ltb j (length (now root))) ≡ true ⌝ }
+    ensures { λ r. ⌜ Least (now (parent .entry)) (now (root .entry)) i j (r .cursor) (r .parent) (r .root) ⌝ }
 {
-    let i = done.parent;
-    let counts = put_one(sheet, parent[i], subject, next, listed, done.counts);
-    Done {
+    if root.len() <= j {
+        return Taken {
+            cursor: parent[i],
+            parent: i + 1,
+            root: j,
+        };
+    }
+    if parent.len() <= i {
+        return Taken {
+            cursor: root[j],
+            parent: i,
+            root: j + 1,
+        };
+    }
+    let a = parent[i];
+    let b = root[j];
+    if a < b {
+        return Taken {
+            cursor: a,
+            parent: i + 1,
+            root: j,
+        };
+    }
+    if b < a {
+        return Taken {
+            cursor: b,
+            parent: i,
+            root: j + 1,
+        };
+    }
+    Taken {
+        cursor: a,
         parent: i + 1,
-        root: done.root,
-        counts,
-    }
-}
-
-// The root's, before all that are left of the parent's.
-fn take_root(
-    sheet: &[u32],
-    parent: &[u32],
-    root: &[u32],
-    subject: &[u32],
-    next: &mut [u32],
-    listed: &mut [u32],
-    done: Done,
-) -> Done
-    requires { ⌜ sheetShape (now sheet) ≡ true ⌝ }
-    requires { ⌜ tagsAscend (rowAt 16 (now subject) 0) ≡ true ⌝ }
-    requires { ⌜ Walks (now sheet) (rowAt 16 (now subject) 0) (now parent) (now root) (now next) (now listed) (done .parent) (done .root) (done .counts .cursors) (done .counts .matched) ⌝ }
-    requires { ⌜ First (now root) (now parent) (done .root) (done .parent) ⌝ }
-    ensures { λ r. ⌜ Turned (now (sheet .entry)) (rowAt 16 (now (subject .entry)) 0) (now (parent .entry)) (now (root .entry)) (now (next .entry)) (now (listed .entry)) (done .parent) (done .root) (done .counts .cursors) (done .counts .matched) (now (next .exit)) (now (listed .exit)) (r .parent) (r .root) (r .counts .cursors) (r .counts .matched) ⌝ }
-{
-    let j = done.root;
-    let counts = put_one(sheet, root[j], subject, next, listed, done.counts);
-    Done {
-        parent: done.parent,
         root: j + 1,
-        counts,
     }
 }
 
-// The lowest of both that is left. Of equal ones the parent's is left out, and the root's comes next.
+// What the lowest cursor that is left leaves and lists.
 fn turn(
     sheet: &[u32],
     parent: &[u32],
@@ -230,29 +230,13 @@ fn turn(
     requires { ⌜ (ltb (done .parent) (length (now parent)) || ltb (done .root) (length (now root))) ≡ true ⌝ }
     ensures { λ r. ⌜ Turned (now (sheet .entry)) (rowAt 16 (now (subject .entry)) 0) (now (parent .entry)) (now (root .entry)) (now (next .entry)) (now (listed .entry)) (done .parent) (done .root) (done .counts .cursors) (done .counts .matched) (now (next .exit)) (now (listed .exit)) (r .parent) (r .root) (r .counts .cursors) (r .counts .matched) ⌝ }
 {
-    let i = done.parent;
-    let j = done.root;
-    let counts = done.counts;
-    if root.len() <= j {
-        return take_parent(sheet, parent, root, subject, next, listed, done);
+    let taken = lowest(parent, root, done.parent, done.root);
+    let counts = put_one(sheet, taken.cursor, subject, next, listed, done.counts);
+    Done {
+        parent: taken.parent,
+        root: taken.root,
+        counts,
     }
-    if parent.len() <= i {
-        return take_root(sheet, parent, root, subject, next, listed, done);
-    }
-    let a = parent[i];
-    let b = root[j];
-    if a < b {
-        return take_parent(sheet, parent, root, subject, next, listed, done);
-    }
-    if a == b {
-        let after = i + 1;
-        return Done {
-            parent: after,
-            root: j,
-            counts,
-        };
-    }
-    take_root(sheet, parent, root, subject, next, listed, done)
 }
 
 // Whether a cursor is left in one of the lists.

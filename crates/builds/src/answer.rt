@@ -2,11 +2,16 @@
 use crate::look;
 use crate::push;
 use crate::tell;
+use items::MOST;
 use items::room;
 use items::say;
+use lent::held::part;
 use lent::words::put;
 use lent::words::wide;
 use lent::words::word;
+
+// How many words a sheet has.
+pub(crate) const SHEET: usize = 67020;
 
 // What is read.
 fn reading(op: u32, body: &[u32], sheet: &[u32], out: &mut [u8], at: usize) -> usize {
@@ -38,7 +43,7 @@ fn on_sheet(
 }
 
 // The room that the first item of a sheet says.
-fn set_room(op: u32, body: &[u32], rooms: &mut [u32]) {
+fn set_room(op: u32, body: &[u32], rooms: &mut [u32; 2]) {
     if op == 1 {
         put(rooms, wide(word(body, 0) % 2), word(body, 1));
     }
@@ -62,15 +67,18 @@ fn on_sheets(
     on_sheet(op, body, &mut second[..m], &first[..n], out, at)
 }
 
+// Answers the item whose words are the first n.
 pub(crate) fn item(
     op: u32,
-    body: &[u32],
-    first: &mut [u32],
-    second: &mut [u32],
-    rooms: &mut [u32],
-    out: &mut [u8],
+    words: &[u32; MOST],
+    n: usize,
+    first: &mut [u32; SHEET],
+    second: &mut [u32; SHEET],
+    rooms: &mut [u32; 2],
+    out: &mut [u8; 65536],
     at: usize,
 ) -> usize {
+    let body = part(words, 0, n);
     set_room(op, body, rooms);
     on_sheets(op, body, first, second, rooms, out, at)
 }

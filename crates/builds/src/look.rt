@@ -35,20 +35,12 @@ fn of_contains(answer: Containing) -> Said {
     }
 }
 
-fn contains(out: &mut [u8], at: usize, answer: Containing) -> usize {
-    said::line(out, at, b"la", of_contains(answer))
-}
-
 fn of_position(answer: Place) -> Said {
     match answer {
         Place::At(place) => said::two(0, place),
         Place::Absent => said::one(0),
         Place::Refused(refusal) => said::refused(refusal),
     }
-}
-
-fn position(out: &mut [u8], at: usize, answer: Place) -> usize {
-    said::line(out, at, b"lb", of_position(answer))
 }
 
 fn of_value_kind(answer: StyleValueKind) -> Said {
@@ -62,10 +54,6 @@ fn of_value_kind(answer: StyleValueKind) -> Said {
     }
 }
 
-fn value_kind(out: &mut [u8], at: usize, answer: StyleValueKind) -> usize {
-    said::line(out, at, b"lc", of_value_kind(answer))
-}
-
 fn of_value_ref(answer: StyleValueRef) -> Said {
     match answer {
         StyleValueRef::Value(x) => said::three(0, 0, x),
@@ -73,10 +61,6 @@ fn of_value_ref(answer: StyleValueRef) -> Said {
         StyleValueRef::Nothing => said::one(0),
         StyleValueRef::Refused(refusal) => said::refused(refusal),
     }
-}
-
-fn value_ref(out: &mut [u8], at: usize, answer: StyleValueRef) -> usize {
-    said::line(out, at, b"ld", of_value_ref(answer))
 }
 
 fn of_resource_key(answer: ResourceKey) -> Said {
@@ -87,19 +71,11 @@ fn of_resource_key(answer: ResourceKey) -> Said {
     }
 }
 
-fn resource_key(out: &mut [u8], at: usize, answer: ResourceKey) -> usize {
-    said::line(out, at, b"le", of_resource_key(answer))
-}
-
 fn of_len(answer: Length) -> Said {
     match answer {
         Length::Entries(n) => said::two(0, n),
         Length::Refused(refusal) => said::refused(refusal),
     }
-}
-
-fn len(out: &mut [u8], at: usize, answer: Length) -> usize {
-    said::line(out, at, b"lf", of_len(answer))
 }
 
 // At most 32.
@@ -110,6 +86,20 @@ fn ids(out: &mut [u8], at: usize, properties: &[u16]) -> usize {
 }
 
 // `la` to `ld`
+fn found(
+    out: &mut [u8],
+    at: usize,
+    containing: Containing,
+    place: Place,
+    kind: StyleValueKind,
+    value: StyleValueRef,
+) -> usize {
+    let a = said::line(out, at, b"la", of_contains(containing));
+    let b = said::line(out, a, b"lb", of_position(place));
+    let c = said::line(out, b, b"lc", of_value_kind(kind));
+    said::line(out, c, b"ld", of_value_ref(value))
+}
+
 fn of_property(
     p: &[u16],
     k: &[u32],
@@ -119,10 +109,17 @@ fn of_property(
     out: &mut [u8],
     at: usize,
 ) -> usize {
-    let a = contains(out, at, style::contains(p, k, n, count, property));
-    let b = position(out, a, style::position(p, k, n, count, property));
-    let c = value_kind(out, b, style::value_kind(p, k, n, count, property));
-    value_ref(out, c, style::value_ref(p, k, n, count, property))
+    let containing = lookups::contains(p, k, n, count, property);
+    let place = lookups::position(p, k, n, count, property);
+    let kind = lookups::value_kind(p, k, n, count, property);
+    let value = lookups::value_ref(p, k, n, count, property);
+    found(out, at, containing, place, kind, value)
+}
+
+// `le` and `lf`
+fn keyed(out: &mut [u8], at: usize, key: ResourceKey, length: Length) -> usize {
+    let e = said::line(out, at, b"le", of_resource_key(key));
+    said::line(out, e, b"lf", of_len(length))
 }
 
 // All seven lines.
@@ -136,9 +133,9 @@ fn look(
     at: usize,
 ) -> usize {
     let d = of_property(p, k, n, count, property, out, at);
-    let e = resource_key(out, d, style::resource_key(p, k, n, count, property));
-    let f = len(out, e, style::len(p, k, n, count));
-    ids(out, f, style::property_ids(p, k, n, count))
+    let key = lookups::resource_key(p, k, n, count, property);
+    let f = keyed(out, d, key, lookups::len(p, k, n, count));
+    ids(out, f, lookups::property_ids(p, k, n, count))
 }
 
 // The look-ups on lent lists.

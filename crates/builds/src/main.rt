@@ -5,7 +5,6 @@ use items::held::NONE;
 use items::held::SIZE;
 use items::held::finish;
 use items::held::next;
-use lent::held::part;
 
 mod answer;
 mod lists;
@@ -13,27 +12,13 @@ mod look;
 mod push;
 mod tell;
 
-// Answers the item whose words are the first n.
-fn answer_item(
-    op: u32,
-    words: &[u32; MOST],
-    n: usize,
-    first: &mut [u32; 67020],
-    second: &mut [u32; 67020],
-    rooms: &mut [u32; 2],
-    out: &mut [u8; 65536],
-    used: usize,
-) -> usize {
-    answer::item(op, part(words, 0, n), first, second, rooms, out, used)
-}
-
 // The sheets, and how many words of each are lent.
 // A proved loop has to end, and nothing says that the input does: the turns are counted down, from a number that no run uses up.
 fn main() {
     let mut input = [0u8; SIZE];
     let mut words = [0u32; MOST];
-    let mut first = [0u32; 67020];
-    let mut second = [0u32; 67020];
+    let mut first = [0u32; answer::SHEET];
+    let mut second = [0u32; answer::SHEET];
     let mut rooms = [0u32; 2];
     let mut out = [0u8; 65536];
     let mut used = 0;
@@ -45,7 +30,7 @@ fn main() {
             finish(&input, item.have, &mut out, used);
             return;
         }
-        used = answer_item(
+        used = answer::item(
             item.op,
             &words,
             item.count,

@@ -49,11 +49,6 @@ fn style_of(body: &[u32], properties: &[u16], sheet: &mut [u32]) -> Pushing {
     push_style(sheet, origin, properties, kinds, numbers, count)
 }
 
-fn style(body: &[u32], properties: &[u16], sheet: &mut [u32], out: &mut [u8], at: usize) -> usize {
-    let pushing = style_of(body, properties, sheet);
-    pushed(out, at, b"style", pushing)
-}
-
 fn group_of(body: &[u32], properties: &[u16], sheet: &mut [u32]) -> Pushing {
     let origin = word(body, 1);
     let count = wide(word(body, 2));
@@ -75,11 +70,6 @@ fn group_of(body: &[u32], properties: &[u16], sheet: &mut [u32]) -> Pushing {
     )
 }
 
-fn group(body: &[u32], properties: &[u16], sheet: &mut [u32], out: &mut [u8], at: usize) -> usize {
-    let pushing = group_of(body, properties, sheet);
-    pushed(out, at, b"group", pushing)
-}
-
 fn rule_of(body: &[u32], properties: &[u16], sheet: &mut [u32]) -> Pushing {
     let steps = list(body, RULE, 5);
     let combinators = list(body, RULE, 6);
@@ -97,11 +87,6 @@ fn rule_of(body: &[u32], properties: &[u16], sheet: &mut [u32]) -> Pushing {
         numbers,
         word(body, 4),
     )
-}
-
-fn rule(body: &[u32], properties: &[u16], sheet: &mut [u32], out: &mut [u8], at: usize) -> usize {
-    let pushing = rule_of(body, properties, sheet);
-    pushed(out, at, b"rule", pushing)
 }
 
 // Where the property ids stand.
@@ -122,9 +107,9 @@ fn with_ids(
     at: usize,
 ) -> usize {
     match op {
-        2 => style(body, properties, sheet, out, at),
-        3 => group(body, properties, sheet, out, at),
-        _ => rule(body, properties, sheet, out, at),
+        2 => pushed(out, at, b"style", style_of(body, properties, sheet)),
+        3 => pushed(out, at, b"group", group_of(body, properties, sheet)),
+        _ => pushed(out, at, b"rule", rule_of(body, properties, sheet)),
     }
 }
 

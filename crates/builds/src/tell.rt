@@ -6,7 +6,6 @@ use lent::words::word;
 use lines::text;
 use reading::CombinatorAnswer;
 use reading::Counting;
-use reading::DirectStyle;
 use reading::Emptiness;
 use reading::EntryAnswer;
 use reading::MatchRule;
@@ -15,7 +14,6 @@ use reading::StepAnswer;
 use reading::StepVerdict;
 use reading::StyleAnswer;
 use reading::read;
-use selector::Specificity;
 use selector::Weighing;
 
 // Entry i of a source, which is a direct style where `source` is 0, else a rule.
@@ -47,16 +45,11 @@ fn row(out: &mut [u8], at: usize, words: &[u32]) -> usize {
     say::end(out, pseudos)
 }
 
-fn found(out: &mut [u8], at: usize, answer: StepAnswer) -> usize {
-    let step = answer.step;
-    let words = step.row();
-    row(out, at, &words)
-}
-
 fn step(out: &mut [u8], at: usize, answer: StepAnswer) -> usize {
     let verdict = answer.verdict;
+    let step = answer.step;
     match verdict {
-        StepVerdict::Found => found(out, at, answer),
+        StepVerdict::Found => row(out, at, &step.row()),
         StepVerdict::Absent => at,
         StepVerdict::Refused(refusal) => say::refused(out, at, b"t", refusal),
     }
@@ -101,27 +94,20 @@ fn parts(sheet: &[u32], number: u32, what: Part, n: u32, out: &mut [u8], at: usi
 }
 
 // A direct style, and its entries.
-fn direct(sheet: &[u32], number: u32, s: DirectStyle, out: &mut [u8], at: usize) -> usize {
-    let used = say::three(out, at, b"d", s.origin, s.source_index, s.entry_count);
-    parts(sheet, number, Part::StyleEntry, s.entry_count, out, used)
-}
-
 fn style(sheet: &[u32], number: u32, out: &mut [u8], at: usize) -> usize {
     match read::style(sheet, number) {
-        StyleAnswer::Style(s) => direct(sheet, number, s, out, at),
+        StyleAnswer::Style(s) => {
+            let used = say::three(out, at, b"d", s.origin, s.source_index, s.entry_count);
+            parts(sheet, number, Part::StyleEntry, s.entry_count, out, used)
+        }
         StyleAnswer::Absent => at,
         StyleAnswer::Refused(refusal) => say::refused(out, at, b"d", refusal),
     }
 }
 
-fn weighs(out: &mut [u8], at: usize, s: Specificity) -> usize {
-    let list = [s.0, s.1, s.2, s.3];
-    say::line(out, at, b"w", &list)
-}
-
 fn weight(sheet: &[u32], number: u32, ranking: u32, out: &mut [u8], at: usize) -> usize {
     match read::rule_weight(sheet, number, ranking) {
-        Weighing::Weighs(s) => weighs(out, at, s),
+        Weighing::Weighs(s) => say::line(out, at, b"w", &[s.0, s.1, s.2, s.3]),
         Weighing::Refused(refusal) => say::refused(out, at, b"w", refusal),
     }
 }
@@ -146,14 +132,12 @@ fn rest(sheet: &[u32], number: u32, r: MatchRule, out: &mut [u8], at: usize) -> 
     weight(sheet, number, 1, out, d)
 }
 
-fn matched(sheet: &[u32], number: u32, r: MatchRule, out: &mut [u8], at: usize) -> usize {
-    let used = own(out, at, r);
-    rest(sheet, number, r, out, used)
-}
-
 fn rule(sheet: &[u32], number: u32, out: &mut [u8], at: usize) -> usize {
     match read::rule(sheet, number) {
-        RuleAnswer::Rule(r) => matched(sheet, number, r, out, at),
+        RuleAnswer::Rule(r) => {
+            let used = own(out, at, r);
+            rest(sheet, number, r, out, used)
+        }
         RuleAnswer::Refused(refusal) => say::refused(out, at, b"r", refusal),
     }
 }

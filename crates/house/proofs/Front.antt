@@ -28,10 +28,10 @@ front-none true true e = absurd (omega arith)
 front-none true false e = absurd (omega arith)
 front-none false w e = refl
 
-front-one : (k w : Bool) → tells k w ≡ 1 → (k ≡ true) × (w ≡ false)
-front-one true true e = absurd (omega arith)
-front-one true false e = (refl, refl)
-front-one false w e = absurd (omega arith)
+front-one : (k w : Bool) → (tells k w ≡ 0 → ⊥) → (tells k w ≡ 2 → ⊥) → (k ≡ true) × (w ≡ false)
+front-one true true n o = absurd (n refl)
+front-one true false n o = (refl, refl)
+front-one false w n o = absurd (o refl)
 
 module _ (bytes : List ℕ) (found : ℕ) (f : found ≡ frontOf bytes) where
   pub front-whole : (found ≡ 1 → ⊥) → (found ≡ 2 → ⊥) → isWhole bytes ≡ true
@@ -40,8 +40,8 @@ module _ (bytes : List ℕ) (found : ℕ) (f : found ≡ frontOf bytes) where
   pub front-unknown : found ≡ 2 → known (kindOf bytes) ≡ false
   front-unknown e = front-none (known (kindOf bytes)) (isWhole bytes) (sym f ∙ e)
 
-  pub front-cut : found ≡ 1 → Cut bytes
-  front-cut e = let (k, w) = front-one (known (kindOf bytes)) (isWhole bytes) (sym f ∙ e) in record { short = w; begun = λ _. k }
+  pub front-cut : (found ≡ 0 → ⊥) → (found ≡ 2 → ⊥) → Cut bytes
+  front-cut n o = let (k, w) = front-one (known (kindOf bytes)) (isWhole bytes) (λ e. n (f ∙ e)) (λ e. o (f ∙ e)) in record { short = w; begun = λ _. k }
 
 -- no byte is no record
 pub none-cut : (bytes : List ℕ) → length bytes ≤ 0 → Cut bytes

@@ -1,5 +1,5 @@
 -- The ways through the functions that take a record of those up to kind 8. Assumes nothing.
-use mathlib.Core.Path.{_≡_, refl, sym, _∙_, subst}
+use mathlib.Core.Path.{_≡_, refl, sym, ap, _∙_, subst}
 use mathlib.Core.Bool.{cond, true, false}
 use mathlib.Core.List.{List, []}
 use Prim.Native.Nat.{ℕ, _+_, _≤_, _<_}
@@ -26,7 +26,7 @@ use Rattle.wording.specs.Lines.{refusedLine}
 use Rattle.house.specs.declared.Making.{Making}
 use Rattle.house.specs.House.{first, making, stops, leads, emptySheet, firstVerdict, makingOutcome, outcome}
 use Rattle.house.specs.Memory.{phaseOf, Before, Stands}
-use Rattle.making.specs.Taking.{refusing, moved, nextPhase, did, Took, Past, TookFront}
+use Rattle.making.specs.Taking.{refusing, moved, nextPhase, did, Took, Past, TookFront, GoesOn}
 use Rattle.house.proofs.Never.{build-never-refused}
 use Rattle.house.proofs.Front.{item-size}
 
@@ -138,7 +138,7 @@ gone m state f = led m state (m .ranking) (m .stamp) f
 
 module _ (m : Making) (w : List ℕ) (g : Group) (b : Before m w g) (z : m .state ≡ 1) (r : Record) (t : Taken) (w′ : List ℕ) (g′ : Group)
     (k : Takes w (m .filled) g r t w′ g′) where
-  pub go-refused : (m′ : Making) → m′ ≡ refusing m (t .verdict) → (t .verdict ≡ 0 → ⊥) → Took m w g r m′ w′ g′
+  go-refused : (m′ : Making) → m′ ≡ refusing m (t .verdict) → (t .verdict ≡ 0 → ⊥) → Took m w g r m′ w′ g′
   go-refused m′ q n =
       let same : w′ ≡ w = k .sheet ∙ rw (← k .answer, ne-eqb (t .verdict) 0 n) in
       rw (q, same, k .keeps n .1) (took-refused m w g r (t .verdict) (b .sound .room) (λ room.
@@ -177,7 +177,7 @@ module _ (m : Making) (w : List ℕ) (g : Group) (b : Before m w g) (z : m .stat
         (stands-making refl (k .sound) (k .shape) (b .ranking))
 
     -- as the code says the state
-    pub go-after : (s : ℕ) → s ≡ cond (eqb (r .kind) 8) 3 1 → Took m w g r (gone m s (t .filled)) w′ g′
+    go-after : (s : ℕ) → s ≡ cond (eqb (r .kind) 8) 3 1 → Took m w g r (gone m s (t .filled)) w′ g′
     go-after s q = elim (ℕ-discrete (r .kind) 8) [
       | yes e ↦ let i : s ≡ 3 = q ∙ rw (eq-eqb (r .kind) 8 e) in rw i (go-end e)
       | no n ↦ let i : s ≡ 1 = q ∙ rw (ne-eqb (r .kind) 8 n) in rw i (go-on n)
@@ -192,10 +192,6 @@ state-end kind e = rw e
 pub state-on : (kind : ℕ) → (kind ≡ 8 → ⊥) → 1 ≡ stateAfter kind
 state-on kind n = rw (ne-eqb kind 8 n)
 
--- a state that waits, and isn't the first
-pub state-one : {m : Making} {w : List ℕ} {g : Group} → Before m w g → (m .state ≡ 0 → ⊥) → m .state ≡ 1
-state-one b n = omega (arith, b .awaits)
-
 -- ---- past a record
 
 pub past-stays : (m : Making) (size : ℕ) → m .state ≡ 2 → Past m size m
@@ -205,10 +201,6 @@ pub past-goes : (m : Making) (size o : ℕ) → (m .state ≡ 2 → ⊥) → (m 
 past-goes m size o n h = record { stays = λ e. absurd (n e); goes = λ _. refl; reach = λ _. h }
 
 -- ---- the record at the front
-
-pub moved-phase : (m : Making) (w : List ℕ) (g : Group) (o a : ℕ) → phaseOf (moved m o a) w g ≡ phaseOf m w g
-unfolding phaseOf
-moved-phase m w g o a = refl
 
 pub moved-before : {m : Making} {w : List ℕ} {g : Group} (o a : ℕ) → Before m w g → Before (moved m o a) w g
 moved-before o a b = record { awaits = b .awaits; zeros = b .zeros; nothing = b .nothing; sound = b .sound; shape = b .shape; ranking = b .ranking }
@@ -257,3 +249,16 @@ module _ (m : Making) (w : List ℕ) (g : Group) (bytes : List ℕ) (m′ : Maki
     | yes s ↦ subst (λ (x : Making). TookFront m w g bytes x w′ g′) (sym (p .stays s)) (front-refused s)
     | no n ↦ subst (λ (x : Making). TookFront m w g bytes x w′ g′) (sym (p .goes n)) (front-moved n (m″ .offset) (p .reach n))
   ]
+
+-- one that isn't the first, in whatever memory it was taken
+module _ (m : Making) (r : Record) (t : Taken) where
+  pub on-refused : (m′ : Making) → m′ ≡ refusing m (t .verdict) → (t .verdict ≡ 0 → ⊥) → GoesOn m r t m′
+  on-refused m′ q n = record {
+    goes = λ w g w′ g′ bytes b z e k.
+        front-refused m w g bytes m′ w′ g′ r (sizeOf (r .kind)) m′ e (go-refused m w g b z r t w′ g′ k m′ q n) refl (ap (λ (x : Making). x .state) q);
+  }
+
+  pub on-passed : (s : ℕ) → t .verdict ≡ 0 → s ≡ cond (eqb (r .kind) 8) 3 1 → (size : ℕ) → size ≡ sizeOf (r .kind) → (m″ : Making) → Past (gone m s (t .filled)) size m″ → GoesOn m r t m″
+  on-passed s a q size y m″ p = record {
+    goes = λ w g w′ g′ bytes b z e k. front-taken m w g bytes (gone m s (t .filled)) w′ g′ r size m″ e (go-after m w g b z r t w′ g′ k a s q) y p;
+  }

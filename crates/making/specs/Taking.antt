@@ -1,16 +1,19 @@
 -- One record of those up to kind 8, over lent memory. For contracts within and cores alone. Assumes nothing.
 use mathlib.Core.Path.{_≡_}
-use mathlib.Core.Bool.{cond}
+use mathlib.Core.Bool.{cond, true, false}
 use mathlib.Core.List.{List, []}
-use Prim.Native.Nat.{ℕ, _+_, _<_}
+use Prim.Native.Nat.{ℕ, _+_, _≤_, _<_}
+use lib.ListN.{length, drop}
 use lib.Dec.{eqb}
 use Rattle.given.specs.Given.{Group}
 use Rattle.records.specs.declared.Record.{Record}
-use Rattle.records.specs.Records.{kindOf, sizeOf, recordIn}
+use Rattle.records.specs.Records.{known, kindOf, sizeOf, isWhole, recordIn, Narrow}
+use Rattle.gather.specs.declared.Taken.{Taken}
+use Rattle.gather.specs.Memory.{Takes}
 use Rattle.wording.specs.Lines.{refusedLine}
 use Rattle.house.specs.declared.Making.{Making}
 use Rattle.house.specs.House.{Phase, walks, Outcome, stops, leads, built-of, outcome}
-use Rattle.house.specs.Memory.{phaseOf, Stands}
+use Rattle.house.specs.Memory.{Cut, phaseOf, Before, Stands, MadeSoFar}
 
 -- refused there
 abbrev pub refusing : Making → ℕ → Making
@@ -53,3 +56,26 @@ pub record TookFront (m : Making) (w : List ℕ) (g : Group) (bytes : List ℕ) 
   pub done : Does m w g (recordIn bytes) m′ w′ g′
   pub goes : (m′ .state ≡ 2 → ⊥) → m′ .at ≡ m .at + sizeOf (kindOf bytes)
   pub reach : (m′ .state ≡ 2 → ⊥) → m .offset + sizeOf (kindOf bytes) < 18446744073709551616 → m′ .offset ≡ m .offset + sizeOf (kindOf bytes)
+
+-- what stands ahead in a piece: a record to take (0), a byte that is no kind (2), or none
+pub record Ahead (input : List ℕ) (m : Making) (found : ℕ) : Type 0 where
+  pub takes : found ≡ 0 → (m .state ≤ 1) × (m .at < length input) × (isWhole (drop (m .at) input) ≡ true)
+  pub unknown : found ≡ 2 → (m .state ≤ 1) × (m .at < length input) × (known (kindOf (drop (m .at) input)) ≡ false)
+  pub cut : (found ≡ 0 → ⊥) → (found ≡ 2 → ⊥) → m .state ≤ 1 → Cut (drop (m .at) input)
+
+-- the record there, in numbers that fit: a kind of the table, and a place for what follows
+pub record ItemAt (input : List ℕ) (at : ℕ) (r : Record) : Type 0 where
+  pub read : r ≡ recordIn (drop at input)
+  pub narrow : Narrow r
+  pub known : r .kind ≤ 12
+  pub room : at + sizeOf (r .kind) < 18446744073709551616
+
+-- a sheet's first record was taken, if none was before and the piece begins with one that is whole
+pub record Opens (input : List ℕ) (m : Making) (w : List ℕ) (g : Group) (m′ : Making) (w′ : List ℕ) : Type 0 where
+  pub made : MadeSoFar input m w g m′ w′ g
+  pub later : m′ .state ≡ 0 → isWhole (drop (m′ .at) input) ≡ false
+
+-- after the first: passed, or refused, in whatever memory it was taken
+pub record GoesOn (m : Making) (r : Record) (t : Taken) (m′ : Making) : Type 0 where
+  pub goes : (w : List ℕ) (g : Group) (w′ : List ℕ) (g′ : Group) (bytes : List ℕ) → Before m w g → m .state ≡ 1 → r ≡ recordIn bytes
+      → Takes w (m .filled) g r t w′ g′ → TookFront m w g bytes m′ w′ g′

@@ -17,12 +17,13 @@ use Rattle.selector.specs.Weighing.{weighingTold, weighingOf, weightTold}
 use Rattle.selector.specs.declared.Matching.{Matching}
 use Rattle.selector.specs.declared.Weighing.{Weighing}
 use Rattle.typed.specs.declared.SelectorInputs.{SelectorInputs}
-use Rattle.typed.specs.declared.SelectorInputsOwned.{SelectorInputsOwned}
 use Rattle.typed.specs.declared.TypeChoice.{TypeChoice}
 use Rattle.typed.specs.declared.PartChoice.{PartChoice}
 use Rattle.typed.specs.declared.ClassId.{ClassId}
 use Rattle.typed.specs.declared.PseudoClassId.{PseudoClassId}
-use Rattle.typed.specs.Typed.{over, verdictTold, ownedVerdict, Owned, inputsTags}
+use Rattle.typed.specs.Typed.{over, inputsTags}
+use Rattle.owned.specs.declared.SelectorInputsOwned.{SelectorInputsOwned}
+use Rattle.owned.specs.Owned.{verdictTold, ownedVerdict, Owned}
 use Rattle.steps.specs.declared.SelectorStep.{SelectorStep}
 use Rattle.steps.specs.Steps.{stepVerdict, stepMatching, stepWeighing, stepTags}
 use Rattle.style.specs.Checks.{entriesOver, kindsOver, propertiesOff, styleVerdict}

@@ -18,8 +18,9 @@ use Rattle.typed.specs.declared.TypeChoice.{TypeChoice}
 use Rattle.typed.specs.declared.PartChoice.{PartChoice}
 use Rattle.typed.specs.declared.ClassId.{ClassId}
 use Rattle.typed.specs.declared.PseudoClassId.{PseudoClassId}
-use Rattle.typed.specs.Typed.{Owned, inputsRow}
-use Rattle.typed.proofs.Distinct.{owned-distinct}
+use Rattle.typed.specs.Typed.{inputsRow}
+use Rattle.owned.specs.Owned.{Owned}
+use Rattle.owned.proofs.Distinct.{owned-distinct}
 use Rattle.steps.specs.declared.SelectorStep.{SelectorStep}
 use Rattle.steps.specs.Steps.{stepMatching, stepWeighing}
 use Rattle.style.specs.Looking.{lengthTold, containingTold, positionTold, kindTold, plainTold, resourceTold, styleAnswer, containingOf, positionOf, kindOf, plainOf, resourceOf, found, Ids}
@@ -98,7 +99,7 @@ module _ (steps : List ℕ) (n : ℕ) (combinators : List ℕ) (c : ℕ) where
   pub specificity-determined : (ranking : ℕ) → Determined (λ r. weighingTold r ≡ weighingOf ranking steps n combinators c)
   specificity-determined ranking = told-determined weighing-distinct (weighingOf ranking steps n combinators c)
 
--- ---- typed: `SelectorInputsOwned::new` (no part), `with_part`; steps: `SelectorStep::matches`; `specificity`, `level3_specificity`
+-- ---- owned: `SelectorInputsOwned::new` (no part), `with_part`; steps: `SelectorStep::matches`; `specificity`, `level3_specificity`
 
 pub owned-determined : (t : TypeChoice) (p : PartChoice) (classes : List ClassId) (n : ℕ) (pseudos : List PseudoClassId) (m : ℕ) → Determined (Owned t p classes n pseudos m)
 owned-determined t p classes n pseudos m a b h k = let (e, f) = owned-distinct a b h k in λ i. record { verdict = e i; inputs = f i }
@@ -109,7 +110,7 @@ step-matches-determined s x = told-determined matching-distinct (stepMatching s 
 pub step-specificity-determined : (ranking : ℕ) (s : SelectorStep) → Determined (λ r. weighingTold r ≡ stepWeighing ranking s)
 step-specificity-determined ranking s = told-determined weighing-distinct (stepWeighing ranking s)
 
--- ---- style
+-- ---- lookups
 
 module _ (properties kinds numbers : List ℕ) (n : ℕ) where
   pub len-determined : Determined (λ r. lengthTold r ≡ styleAnswer properties kinds numbers n (0 ∷ n ∷ []))

@@ -12,9 +12,23 @@ mod one_step;
 mod say;
 mod sets;
 
+// How many words a case of this kind has at least.
+fn least(kind: u32, body: &[u32]) -> usize {
+    match kind {
+        2 | 5 => sets::second(body),
+        3 => 1,
+        6 => 2,
+        7 => 60,
+        _ => 0,
+    }
+}
+
 fn answer(kind: u32, body: &[u32], out: &mut [u8], used: usize) -> usize
     requires { ⌜ length (now body) ≤ 4096 ⌝ }
 {
+    if body.len() < least(kind, body) {
+        return lines::text(out, used, b"short\n");
+    }
     match kind {
         1 => sets::set(body, out, used),
         2 => sets::subset(body, out, used),
@@ -52,12 +66,14 @@ fn cut(out: &mut [u8], used: usize) {
     screen::send(out, end, 0);
 }
 
-// Lines are laid into `out`, and written before they can run past its end.
-fn answer_all(input: &[u8], out: &mut [u8]) {
+// The cases of the first n bytes. Lines are laid into `out`, and written before they can run past its end.
+fn answer_all(input: &[u8], n: usize, out: &mut [u8])
+    requires { ⌜ n ≤ length (now input) ⌝ }
+{
     let mut used = 0;
     let mut at = 0;
-    while at < input.len() {
-        let left = input.len() - at;
+    while at < n {
+        let left = n - at;
         if left < 8 {
             cut(out, used);
             return;
@@ -77,13 +93,17 @@ fn answer_all(input: &[u8], out: &mut [u8]) {
 }
 
 // A batch of at most 512 KiB; a larger one gets one line that says so.
-fn main() {
-    let mut input = [0u8; 524289];
-    let mut out = [0u8; 65536];
-    let n = io::read_full(STDIN_FILENO, &mut input);
+fn batch(input: &mut [u8; 524289], out: &mut [u8; 65536]) {
+    let n = io::read_full(STDIN_FILENO, input);
     if 524288 < n {
         io::write_all(STDOUT_FILENO, b"over 512 KiB\n");
         return;
     }
-    answer_all(&input[..n], &mut out);
+    answer_all(input, n, out);
+}
+
+fn main() {
+    let mut input = [0u8; 524289];
+    let mut out = [0u8; 65536];
+    batch(&mut input, &mut out);
 }

@@ -1,15 +1,15 @@
 // The cases of one step and one subject, both by value: matching, weights, and the owned subject.
+use crate::say::numbers;
 use crate::say::wide;
 use lent::Refusal;
 use lines::text;
+use owned::SelectorInputsOwned;
+use owned::Verdict;
 use screen::labelled;
 use selector::Matching;
-use selector::Specificity;
 use selector::Weighing;
 use steps::SelectorStep;
 use typed::SelectorInputs;
-use typed::SelectorInputsOwned;
-use typed::Verdict;
 
 fn refused(out: &mut [u8], at: usize, refusal: Refusal) -> usize {
     labelled(out, at, b" refused ", wide(refusal.number()))
@@ -23,22 +23,10 @@ fn matching(out: &mut [u8], at: usize, fits: Matching) -> usize {
     }
 }
 
-fn four(out: &mut [u8], at: usize, s: Specificity) -> usize {
-    let a = labelled(out, at, b" ", wide(s.0));
-    let b = labelled(out, a, b" ", wide(s.1));
-    let c = labelled(out, b, b" ", wide(s.2));
-    labelled(out, c, b" ", wide(s.3))
-}
-
-fn two(out: &mut [u8], at: usize, s: Specificity) -> usize {
-    let a = labelled(out, at, b" ", wide(s.0));
-    labelled(out, a, b" ", wide(s.1))
-}
-
 // The four counts of ranking 0, or the refusal.
 fn weight(out: &mut [u8], at: usize, weighing: Weighing) -> usize {
     match weighing {
-        Weighing::Weighs(s) => four(out, at, s),
+        Weighing::Weighs(s) => numbers(out, at, &[s.0, s.1, s.2, s.3]),
         Weighing::Refused(refusal) => refused(out, at, refusal),
     }
 }
@@ -46,7 +34,7 @@ fn weight(out: &mut [u8], at: usize, weighing: Weighing) -> usize {
 // The two counts of ranking 1; nothing more where it is refused, as ranking 0 was then.
 fn weight3(out: &mut [u8], at: usize, weighing: Weighing) -> usize {
     match weighing {
-        Weighing::Weighs(s) => two(out, at, s),
+        Weighing::Weighs(s) => numbers(out, at, &[s.0, s.1]),
         Weighing::Refused(_) => at,
     }
 }
@@ -103,9 +91,6 @@ fn owned_match(out: &mut [u8], at: usize, step: SelectorStep, subject: SelectorI
 
 // `step yes w 0 2 0 1 2 1 owned yes`
 pub(crate) fn step(body: &[u32], out: &mut [u8], at: usize) -> usize {
-    if body.len() < 60 {
-        return text(out, at, b"short\n");
-    }
     let step = step_of(body);
     let subject = subject_of(body);
     let start = text(out, at, b"step");

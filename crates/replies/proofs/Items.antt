@@ -7,8 +7,8 @@ use native.Mathlib.Nat.{zero-add}
 use native.Mathlib.Omega.{arith}
 use lib.ListN.{length, getD, drop, replicate, drop-of-length-le}
 use lib.Seq.{sets, sets-eq}
-use lib.Dec.{eqb, ltb}
-use borrow.Author.Tests.{ltb-false, lt-ltb, le-ltb, ne-eqb, not-true}
+use lib.Dec.{ltb}
+use borrow.Author.Tests.{ltb-false, lt-ltb, le-ltb, not-true}
 use Rattle.theory.specs.Lists.{ascends, sort, spread}
 use Rattle.theory.proofs.Lists.{and-left, and-right, and-both, sort-ascending, sort-length, ascends-is}
 use Rattle.theory.proofs.Spreads.{length-spread, getD-spread, spread-same, spread-list}
@@ -20,14 +20,13 @@ use Rattle.typed.specs.declared.PseudoClassId.{PseudoClassId}
 use Rattle.typed.specs.declared.TypeChoice.{TypeChoice}
 use Rattle.typed.specs.declared.PartChoice.{PartChoice}
 use Rattle.typed.specs.declared.SelectorInputs.{SelectorInputs}
-use Rattle.typed.specs.declared.SelectorInputsOwned.{SelectorInputsOwned}
-use Rattle.typed.specs.Typed.{classNumber, pseudoNumber, inputsTags, inputsRow, inputsFrom, rowType, rowPart, classesFrom, pseudosFrom, ownedVerdict, ownedOf, ownedInputs, Owned}
+use Rattle.typed.specs.Typed.{classNumber, pseudoNumber, inputsTags, inputsRow, inputsFrom, rowType, rowPart, classesFrom, pseudosFrom}
+use Rattle.owned.specs.declared.SelectorInputsOwned.{SelectorInputsOwned}
+use Rattle.owned.specs.Owned.{ownedVerdict, ownedOf, ownedInputs, Owned}
 use Rattle.covered.specs.Rooms.{Proper}
 use Rattle.covered.proofs.Accepted.{row-tags}
 use Rattle.records.specs.Rows.{emptyRow, withItem, itemOver}
-use Rattle.wording.specs.Lines.{refusedLine, Said}
-use Rattle.replies.specs.declared.Replied.{Replied}
-use Rattle.replies.specs.Walking.{subjectOf, printed, itemFault, withFit}
+use Rattle.replies.specs.Walking.{subjectOf, itemFault, withFit}
 
 -- ---- an item, by each way through the code
 
@@ -51,18 +50,6 @@ module _ (row : List ℕ) (which id : ℕ) where
 
   pub item-fits : (b : Bool) → b ≡ itemOver 16 which row → b ≡ false → itemOver 16 which row ≡ false
   item-fits b e f = sym e ∙ f
-
-  -- ---- and what it prints
-
-  module _ (out : List ℕ) (at offset v : ℕ) (row′ : List ℕ) (t : Takes v row′) where
-    abbrev Answers : Replied → List ℕ → Type 0
-    Answers r out′ = Said (printed (itemFault row which) offset []) out at (r .used) out′ × ((r .ends ≡ eqb (itemFault row which) 10) × (row′ ≡ withFit row which id))
-
-    pub item-quiet : v ≡ 0 → Answers (record { used = at; ends = false }) out
-    item-quiet z = (record { next = rw (← t .0, z) (omega arith); whole = rw (← t .0, z) }, (rw (← t .0, z), t .1))
-
-    pub item-told : (v ≡ 0 → ⊥) → (r : ℕ) (out′ : List ℕ) → Said (refusedLine v offset) out at r out′ → Answers (record { used = r; ends = eqb v 10 }) out′
-    item-told n r out′ s = (rw (← t .0, ne-eqb v 0 n) s, (rw (← t .0), t .1))
 
 -- ---- the row of the subject
 

@@ -20,10 +20,6 @@ pub record Ready (w : List ℕ) (t : Table) (items : List ℕ) : Type 0 where
   pub row : length items ≡ 38
   pub fits : rowFits 16 items 0 ≡ true
 
--- a record of this kind with these numbers
-abbrev pub recordOf : ℕ → ℕ → ℕ → Record
-recordOf kind first second = record { kind = kind; first = first; second = second; third = 0 }
-
 -- The line, the table and the items after, and whether the program ends
 pub record Replies (s : Walking) (offset : ℕ) (r : Record) (out : List ℕ) (at : ℕ) (answer : Replied) (out′ : List ℕ) (t′ : Table) (items′ : List ℕ) : Type 0 where
   pub line : Said (walkingLine s offset r) out at (answer .used) out′

@@ -7,7 +7,8 @@ use lib.Dec.{eqb, ltb}
 use Rattle.theory.specs.Sizes
 use Rattle.lent.specs.Refusals.{check, firstOf}
 use Rattle.typed.specs.declared.SelectorInputs.{SelectorInputs}
-use Rattle.typed.specs.Typed.{rowType, rowPart, classesFrom, pseudosFrom, ownedInputs, inputsRow}
+use Rattle.typed.specs.Typed.{rowType, rowPart, classesFrom, pseudosFrom, inputsRow}
+use Rattle.owned.specs.Owned.{ownedInputs}
 use Rattle.table.specs.Tables.{Table, stampIn}
 use Rattle.table.specs.Entering.{childOf, entered}
 use Rattle.table.specs.Calls.{stateVerdict, enterVerdict}

@@ -1,4 +1,5 @@
 // For callers that hold the sheet and the table to what the calls before have left, and lend room for a line.
+use crate::Entered;
 use crate::Replied;
 use cascade::held::changed_properties;
 use entering::held::enter_subject;
@@ -7,6 +8,7 @@ use lent::words::widen_into;
 use lent::words::word;
 use looking::held::winning_source;
 use matcher::held::matching_rules;
+use owned::SelectorInputsOwned;
 use records::Record;
 use records::held::half;
 use records::held::item_over;
@@ -14,22 +16,22 @@ use records::held::put_item;
 use settle::Settled;
 use table::layout;
 use typed::SelectorInputs;
-use typed::SelectorInputsOwned;
 ghost use mathlib.Core.Path.{_≡_};
-ghost use mathlib.Core.Bool.{true, false};
-ghost use mathlib.Core.List.{[]};
+ghost use mathlib.Core.Bool.{true};
 ghost use Prim.Native.Nat.{_≤_, _<_};
 ghost use lib.ListN.{length, take};
-ghost use lib.Dec.{eqb};
 ghost use Rattle.typed.specs.Typed.{inputsRow};
 ghost use Rattle.table.specs.Tables.{table, statesIn};
 ghost use Rattle.cascade.specs.Calls.{changedIn};
 ghost use Rattle.covered.specs.Covered.{Covered};
 ghost use Rattle.records.specs.Records.{Narrow};
-ghost use Rattle.records.specs.Rows.{emptyRow};
-ghost use Rattle.wording.specs.Lines.{refusedLine, Said, Room};
-ghost use Rattle.replies.specs.Walking.{walking, subjectOf, printed, itemFault, withFit, enterAfter, walkingLine};
-ghost use Rattle.replies.specs.Memory.{Ready, Replies, recordOf};
+ghost use Rattle.looking.specs.Calls.{winnerIn};
+ghost use Rattle.selector.specs.Rows.{rowAt};
+ghost use Rattle.selector.specs.Checks.{rowFits, tagsAscend};
+ghost use Rattle.wording.specs.Lines.{changedLine, winnerLine, Said, Room};
+ghost use Rattle.replies.specs.Walking.{walking, subjectOf, printed, itemFault, withFit};
+ghost use Rattle.replies.specs.Memory.{Ready, Replies};
+ghost use Rattle.replies.specs.Steps.{entersBy, enteredOf, lostIn, lostEither, ItemsTaken, EntersIf, Tellable, toldLine};
 
 // ---- 9
 
@@ -62,7 +64,35 @@ fn owned_row(items: &[u32]) -> [u32; 38]
     inputs.row()
 }
 
-// Entering, the line that it prints; the items are taken whether it is refused or not.
+// Of an enter alone: other records have no subject.
+fn subject_row(items: &[u32], kind: u32) -> [u32; 38]
+    ensures { λ r. ⌜ (kind ≡ 10 → r ≡ inputsRow (subjectOf (now (items .entry)))) ⌝ }
+{
+    if kind == 10 {
+        return owned_row(items);
+    }
+    [0u32; 38]
+}
+
+fn enters(kind: u32, fault: u32) -> bool
+    ensures { λ r. ⌜ r ≡ entersBy kind fault ⌝ }
+{
+    if kind == 10 {
+        return fault == 0;
+    }
+    false
+}
+
+fn entered(settled: Settled) -> Entered
+    ensures { λ r. ⌜ r ≡ enteredOf settled ⌝ }
+{
+    match settled {
+        Settled::At(child) => Entered { fault: 0, child },
+        Settled::NoRoom => Entered { fault: 5, child: 0 },
+    }
+}
+
+// The one record that writes the table, unless it is refused.
 fn take_enter(
     sheet: &[u32],
     head: &mut [u32],
@@ -70,23 +100,19 @@ fn take_enter(
     cursors: &mut [u32],
     matched: &mut [u32],
     transitions: &mut [u32],
-    items: &mut [u32],
+    kind: u32,
     parent: u32,
-    out: &mut [u8],
-    at: usize,
-    offset: u64,
-) -> usize
-    requires { ⌜ Ready (now sheet) (table (now head) (now states) (now cursors) (now matched) (now transitions)) (now items) ⌝ }
-    requires { ⌜ Room at (now out) ⌝ }
-    ensures { λ r. ⌜ Said (walkingLine (walking (now (sheet .entry)) (table (now (head .entry)) (now (states .entry)) (now (cursors .entry)) (now (matched .entry)) (now (transitions .entry))) (now (items .entry))) offset (recordOf 10 parent 0)) (now (out .entry)) at r (now (out .exit)) ⌝ }
-    ensures { λ _. ⌜ ((table (now (head .exit)) (now (states .exit)) (now (cursors .exit)) (now (matched .exit)) (now (transitions .exit))) ≡ enterAfter (walking (now (sheet .entry)) (table (now (head .entry)) (now (states .entry)) (now (cursors .entry)) (now (matched .entry)) (now (transitions .entry))) (now (items .entry))) parent) × (now (items .exit) ≡ emptyRow 16) ⌝ }
+    fault: u32,
+    row: &[u32],
+) -> Entered
+    requires { ⌜ Covered (now sheet) (table (now head) (now states) (now cursors) (now matched) (now transitions)) ⌝ }
+    requires { ⌜ (entersBy kind fault ≡ true → (parent < statesIn (now head)) × (rowFits 16 (now row) 0 ≡ true) × (tagsAscend (rowAt 16 (now row) 0) ≡ true)) ⌝ }
+    ensures { λ r. ⌜ EntersIf (now (sheet .entry)) (table (now (head .entry)) (now (states .entry)) (now (cursors .entry)) (now (matched .entry)) (now (transitions .entry))) kind parent fault (now (row .entry)) r (table (now (head .exit)) (now (states .exit)) (now (cursors .exit)) (now (matched .exit)) (now (transitions .exit))) ⌝ }
 {
-    let row = owned_row(items);
-    copy_into(items, 0, &[0u32; 38]);
-    if word(head, layout::STATES) <= parent {
-        return wording::held::refused(out, at, 4, offset);
+    if !enters(kind, fault) {
+        return Entered { fault, child: 0 };
     }
-    let settled = enter_subject(
+    entered(enter_subject(
         sheet,
         head,
         states,
@@ -94,17 +120,8 @@ fn take_enter(
         matched,
         transitions,
         parent,
-        &row,
-    );
-    match settled {
-        Settled::At(child) => wording::held::state(
-            out,
-            at,
-            child,
-            matching_rules(states, matched, child),
-        ),
-        Settled::NoRoom => wording::held::refused(out, at, 5, offset),
-    }
+        row,
+    ))
 }
 
 // ---- 11
@@ -141,31 +158,22 @@ fn changed_words(
     n
 }
 
-fn take_changed(
+fn tell_changed(
     sheet: &[u32],
     head: &[u32],
     states: &[u32],
     cursors: &[u32],
     matched: &[u32],
     transitions: &[u32],
-    items: &[u32],
     old: u32,
     new: u32,
     out: &mut [u8],
     at: usize,
-    offset: u64,
 ) -> usize
-    requires { ⌜ Ready (now sheet) (table (now head) (now states) (now cursors) (now matched) (now transitions)) (now items) ⌝ }
+    requires { ⌜ Covered (now sheet) (table (now head) (now states) (now cursors) (now matched) (now transitions)) × (old < statesIn (now head)) × (new < statesIn (now head)) ⌝ }
     requires { ⌜ Room at (now out) ⌝ }
-    ensures { λ r. ⌜ Said (walkingLine (walking (now (sheet .entry)) (table (now (head .entry)) (now (states .entry)) (now (cursors .entry)) (now (matched .entry)) (now (transitions .entry))) (now (items .entry))) offset (recordOf 11 old new)) (now (out .entry)) at r (now (out .exit)) ⌝ }
+    ensures { λ r. ⌜ Said (changedLine (changedIn (now (sheet .entry)) (table (now (head .entry)) (now (states .entry)) (now (cursors .entry)) (now (matched .entry)) (now (transitions .entry))) old new)) (now (out .entry)) at r (now (out .exit)) ⌝ }
 {
-    let count = word(head, layout::STATES);
-    if count <= old {
-        return wording::held::refused(out, at, 4, offset);
-    }
-    if count <= new {
-        return wording::held::refused(out, at, 4, offset);
-    }
     let mut list = [0u32; 4096];
     let n = changed_words(
         sheet,
@@ -183,28 +191,22 @@ fn take_changed(
 
 // ---- 12
 
-fn take_winner(
+fn tell_winner(
     sheet: &[u32],
     head: &[u32],
     states: &[u32],
     cursors: &[u32],
     matched: &[u32],
     transitions: &[u32],
-    items: &[u32],
     state: u32,
     property: u32,
     out: &mut [u8],
     at: usize,
-    offset: u64,
 ) -> usize
-    requires { ⌜ Ready (now sheet) (table (now head) (now states) (now cursors) (now matched) (now transitions)) (now items) ⌝ }
+    requires { ⌜ Covered (now sheet) (table (now head) (now states) (now cursors) (now matched) (now transitions)) × (state < statesIn (now head)) × (property < 65536) ⌝ }
     requires { ⌜ Room at (now out) ⌝ }
-    requires { ⌜ property < 65536 ⌝ }
-    ensures { λ r. ⌜ Said (walkingLine (walking (now (sheet .entry)) (table (now (head .entry)) (now (states .entry)) (now (cursors .entry)) (now (matched .entry)) (now (transitions .entry))) (now (items .entry))) offset (recordOf 12 state property)) (now (out .entry)) at r (now (out .exit)) ⌝ }
+    ensures { λ r. ⌜ Said (winnerLine (now (sheet .entry)) property (winnerIn (now (sheet .entry)) (table (now (head .entry)) (now (states .entry)) (now (cursors .entry)) (now (matched .entry)) (now (transitions .entry))) state property)) (now (out .entry)) at r (now (out .exit)) ⌝ }
 {
-    if word(head, layout::STATES) <= state {
-        return wording::held::refused(out, at, 4, offset);
-    }
     let best = winning_source(
         sheet,
         head,
@@ -220,45 +222,97 @@ fn take_winner(
 
 // ---- any
 
-// A 9, and what it prints if it is refused.
-fn reply_item(
-    items: &mut [u32],
-    which: u32,
-    id: u32,
+fn lost(head: &[u32], state: u32) -> u32
+    ensures { λ r. ⌜ r ≡ lostIn (now (head .entry)) state ⌝ }
+{
+    if state < word(head, layout::STATES) {
+        return 0;
+    }
+    4
+}
+
+fn lost_either(head: &[u32], old: u32, new: u32) -> u32
+    ensures { λ r. ⌜ r ≡ lostEither (now (head .entry)) old new ⌝ }
+{
+    if old < word(head, layout::STATES) {
+        return lost(head, new);
+    }
+    4
+}
+
+// The items after a record, and its refusal as far as it is known before the call.
+fn take_items(head: &[u32], items: &mut [u32], item: Record) -> u32
+    requires { ⌜ length (now items) ≡ 38 ⌝ }
+    ensures { λ r. ⌜ ItemsTaken (now (head .entry)) (now (items .entry)) item r (now (items .exit)) ⌝ }
+{
+    let kind = item.kind;
+    match kind {
+        9 => take_item(items, item.first, item.second),
+        10 => {
+            copy_into(items, 0, &[0u32; 38]);
+            lost(head, item.first)
+        }
+        11 => lost_either(head, item.first, item.second),
+        12 => lost(head, item.first),
+        _ => 10,
+    }
+}
+
+// The line of a record whose call is made.
+fn tell(
+    sheet: &[u32],
+    head: &[u32],
+    states: &[u32],
+    cursors: &[u32],
+    matched: &[u32],
+    transitions: &[u32],
+    item: Record,
+    entered: Entered,
     out: &mut [u8],
     at: usize,
     offset: u64,
-) -> Replied
+) -> usize
+    requires { ⌜ Tellable (now sheet) (table (now head) (now states) (now cursors) (now matched) (now transitions)) item (entered .fault) ⌝ }
     requires { ⌜ Room at (now out) ⌝ }
-    ensures { λ r. ⌜ Said (printed (itemFault (now (items .entry)) which) offset []) (now (out .entry)) at (r .used) (now (out .exit)) ⌝ }
-    ensures { λ r. ⌜ (r .ends ≡ eqb (itemFault (now (items .entry)) which) 10) × (now (items .exit) ≡ withFit (now (items .entry)) which id) ⌝ }
+    ensures { λ r. ⌜ Said (printed (entered .fault) offset (toldLine (now (sheet .entry)) (table (now (head .entry)) (now (states .entry)) (now (cursors .entry)) (now (matched .entry)) (now (transitions .entry))) item (entered .child))) (now (out .entry)) at r (now (out .exit)) ⌝ }
 {
-    let v = take_item(items, which, id);
-    if v == 0 {
-        return Replied {
-            used: at,
-            ends: false,
-        };
+    if entered.fault != 0 {
+        return wording::held::refused(out, at, entered.fault, offset);
     }
-    let used = wording::held::refused(out, at, v, offset);
-    Replied {
-        used,
-        ends: v == 10,
+    let kind = item.kind;
+    match kind {
+        10 => wording::held::state(
+            out,
+            at,
+            entered.child,
+            matching_rules(states, matched, entered.child),
+        ),
+        11 => tell_changed(
+            sheet,
+            head,
+            states,
+            cursors,
+            matched,
+            transitions,
+            item.first,
+            item.second,
+            out,
+            at,
+        ),
+        12 => tell_winner(
+            sheet,
+            head,
+            states,
+            cursors,
+            matched,
+            transitions,
+            item.first,
+            item.second,
+            out,
+            at,
+        ),
+        _ => at,
     }
-}
-
-fn misplaced(out: &mut [u8], at: usize, offset: u64) -> Replied
-    requires { ⌜ Room at (now out) ⌝ }
-    ensures { λ r. ⌜ Said (refusedLine 10 offset) (now (out .entry)) at (r .used) (now (out .exit)) × (r .ends ≡ true) ⌝ }
-{
-    let used = wording::held::refused(out, at, 10, offset);
-    Replied { used, ends: true }
-}
-
-fn on(used: usize) -> Replied
-    ensures { λ r. ⌜ r ≡ record { used = used; ends = false } ⌝ }
-{
-    Replied { used, ends: false }
 }
 
 // A record after kind 8: its line goes into `out` at `at`.
@@ -280,50 +334,35 @@ pub fn reply(
     requires { ⌜ Narrow item ⌝ }
     ensures { λ r. ⌜ Replies (walking (now (sheet .entry)) (table (now (head .entry)) (now (states .entry)) (now (cursors .entry)) (now (matched .entry)) (now (transitions .entry))) (now (items .entry))) offset item (now (out .entry)) at r (now (out .exit)) (table (now (head .exit)) (now (states .exit)) (now (cursors .exit)) (now (matched .exit)) (now (transitions .exit))) (now (items .exit)) ⌝ }
 {
-    let kind = item.kind;
-    match kind {
-        9 => reply_item(items, item.first, item.second, out, at, offset),
-        10 => on(take_enter(
-            sheet,
-            head,
-            states,
-            cursors,
-            matched,
-            transitions,
-            items,
-            item.first,
-            out,
-            at,
-            offset,
-        )),
-        11 => on(take_changed(
-            sheet,
-            head,
-            states,
-            cursors,
-            matched,
-            transitions,
-            items,
-            item.first,
-            item.second,
-            out,
-            at,
-            offset,
-        )),
-        12 => on(take_winner(
-            sheet,
-            head,
-            states,
-            cursors,
-            matched,
-            transitions,
-            items,
-            item.first,
-            item.second,
-            out,
-            at,
-            offset,
-        )),
-        _ => misplaced(out, at, offset),
+    let row = subject_row(items, item.kind);
+    let fault = take_items(head, items, item);
+    let entered = take_enter(
+        sheet,
+        head,
+        states,
+        cursors,
+        matched,
+        transitions,
+        item.kind,
+        item.first,
+        fault,
+        &row,
+    );
+    let used = tell(
+        sheet,
+        head,
+        states,
+        cursors,
+        matched,
+        transitions,
+        item,
+        entered,
+        out,
+        at,
+        offset,
+    );
+    Replied {
+        used,
+        ends: entered.fault == 10,
     }
 }

@@ -6,3 +6,9 @@ pub struct Replied {
     pub used: usize,
     pub ends: bool,
 }
+
+// Why a record is refused, or 0; and the child of an enter that is not.
+struct Entered {
+    fault: u32,
+    child: u32,
+}

@@ -1,18 +1,16 @@
 -- Laws of a style's checks, by each way through the code. Assumes nothing.
-use mathlib.Core.Path.{_≡_, refl, sym, _∙_}
+use mathlib.Core.Path.{_≡_, sym, _∙_}
 use mathlib.Core.Bool.{Bool, true, false, not}
-use mathlib.Core.List.{List, [], _∷_}
-use Prim.Native.Nat.{ℕ, zero, suc, _+_, _-_, _≤_, _<_}
+use mathlib.Core.List.{List}
+use Prim.Native.Nat.{ℕ, _+_, _-_, _≤_, _<_}
 use native.Mathlib.Omega.{arith}
-use lib.ListN.{length, getD, take, drop, replicate}
+use lib.ListN.{length, take, drop, replicate}
 use lib.Seq.{sets, sets-eq, take-at, length-take-le}
-use lib.Dec.{ltb, leb}
-use borrow.Author.Tests.{lt-ltb, le-ltb, ltb-false, leb-true, not-false}
+use lib.Dec.{ltb}
+use borrow.Author.Tests.{lt-ltb, le-ltb, ltb-false}
 use Rattle.theory.specs.Lists.{ascends, atMost}
-use Rattle.theory.proofs.Lists.{or-first, or-second, and-left, and-right}
-use Rattle.lent.specs.Refusals.{firstOf}
-use Rattle.lent.proofs.Refusals.{first-under, first-clear}
-use Rattle.style.specs.Checks.{entriesOver, kindsOver, propertiesOff, styleVerdict}
+use Rattle.theory.proofs.Lists.{or-first, or-second}
+use Rattle.style.specs.Checks.{entriesOver, kindsOver, propertiesOff}
 
 -- ---- counts over their sizes
 
@@ -63,18 +61,6 @@ pub kinds-are : (kinds l : List ℕ) (n : ℕ) (b : Bool) → l ≡ take (n - 0)
 unfolding kindsOver
 kinds-are kinds l n b e f = rw (f, e, front kinds n)
 
--- each of the first n kinds is at most 3
-at-most-at : (limit : ℕ) (l : List ℕ) (n k : ℕ) → atMost limit (take n l) ≡ true → k < n → k < length l → getD l k 0 ≤ limit
-unfolding atMost
-at-most-at limit l zero k e h g = absurd (omega arith)
-at-most-at limit [] (suc n) k e h g = absurd (omega arith)
-at-most-at limit (a ∷ l) (suc n) zero e h g = leb-true a limit (and-left _ _ e)
-at-most-at limit (a ∷ l) (suc n) (suc k) e h g = at-most-at limit l n k (and-right (leb a limit) _ e) (omega arith) (omega arith)
-
-pub kind-few : (kinds : List ℕ) (n k : ℕ) → kindsOver kinds n ≡ false → k < n → n ≤ length kinds → getD kinds k 0 ≤ 3
-unfolding kindsOver
-kind-few kinds n k e h g = at-most-at 3 kinds n k (not-false _ e) h (omega arith)
-
 pub ids-are : (properties l words : List ℕ) (n : ℕ) → l ≡ take (n - 0) (drop 0 properties) → words ≡ sets (replicate 32 0) 0 l → words ≡ sets (replicate 32 0) 0 (take n properties)
 ids-are properties l words n e f = f ∙ rw (e, front properties n)
 
@@ -95,27 +81,3 @@ pub off-are : (properties words l : List ℕ) (n : ℕ) (b : Bool)
     → not b ≡ propertiesOff properties n
 unfolding propertiesOff
 off-are properties words l n b g h w e f = rw (f, e, widened properties words n w g h)
-
--- ---- the first that fails
-
--- what a style that is not refused keeps to
-pub record Accepted (properties kinds numbers : List ℕ) (n : ℕ) : Type 0 where
-  pub counted : Within properties kinds numbers n
-  pub kinds-in : kindsOver kinds n ≡ false
-  pub sorted : propertiesOff properties n ≡ false
-
-module _ (properties kinds numbers : List ℕ) (n : ℕ) where
-  pub verdict-few : styleVerdict properties kinds numbers n < 10
-  unfolding styleVerdict
-  verdict-few = first-under 2 10 _ _ (omega arith) (first-under 6 10 _ _ (omega arith) (first-under 1 10 _ [] (omega arith) (unfold firstOf in omega arith)))
-
-  pub accepted : (v : ℕ) → v ≡ styleVerdict properties kinds numbers n → v ≡ 0 → Accepted properties kinds numbers n
-  unfolding styleVerdict
-  accepted v e z =
-      let (a, r) = first-clear 2 (entriesOver properties kinds numbers n) _ (omega arith) (sym e ∙ z) in
-      let (b, s) = first-clear 6 (kindsOver kinds n) _ (omega arith) r in
-      record {
-        counted = within properties kinds numbers n _ refl a;
-        kinds-in = b;
-        sorted = first-clear 1 (propertiesOff properties n) [] (omega arith) s .0;
-      }

@@ -1,23 +1,18 @@
 -- Subjects by value, with typed numbers, and the rows that they are written to and read from: 01, "Subjects and steps".
 -- Assumes nothing.
 use mathlib.Core.Path.{_≡_, refl}
-use mathlib.Core.Bool.{Bool, cond, _||_}
+use mathlib.Core.Bool.{Bool, _||_}
 use mathlib.Core.Option.{Option, none, some}
 use mathlib.Core.List.{List, [], _∷_, _++_}
 use Prim.Native.Nat.{ℕ}
-use lib.ListN.{length, getD, replicate}
-use lib.Dec.{ltb, eqb}
-use Rattle.theory.specs.Sizes
-use Rattle.theory.specs.Lists.{sort, spread}
-use Rattle.lent.specs.Refusals.{told, check, firstOf, answered}
+use lib.ListN.{getD, replicate}
+use lib.Dec.{ltb}
+use Rattle.theory.specs.Lists.{spread}
 use Rattle.typed.specs.declared.ClassId.{ClassId}
 use Rattle.typed.specs.declared.PseudoClassId.{PseudoClassId}
 use Rattle.typed.specs.declared.TypeChoice.{TypeChoice}
 use Rattle.typed.specs.declared.PartChoice.{PartChoice}
 use Rattle.typed.specs.declared.SelectorInputs.{SelectorInputs}
-use Rattle.typed.specs.declared.SelectorInputsOwned.{SelectorInputsOwned}
-use Rattle.typed.specs.declared.Verdict.{Verdict}
-use Rattle.typed.specs.declared.Verdict.the-variants.{Accepted, Refused}
 use Rattle.selector.specs.Tags.{Tags}
 use Rattle.selector.specs.Rows.{tagOf, tagNumber}
 use Rattle.selector.specs.Weighing.{isSet}
@@ -92,10 +87,6 @@ abbrev pub inputsRow : SelectorInputs → List ℕ
 inputsRow x =
     rowOf 16 (typeOf (x .«type_tag»)) (partOf (x .«part_tag»)) (x .«class_count») (x .«pseudo_count») (classNumber (x .classes)) (pseudoNumber (x .pseudos))
 
--- A subject row without tags, of two lists of ids, 0 past them
-abbrev pub idsRow : List ℕ → List ℕ → List ℕ
-idsRow classes pseudos = rowWith 16 0 0 0 0 (length classes) (length pseudos) (λ k. getD classes k 0) (λ k. getD pseudos k 0)
-
 abbrev pub typeFrom : Option ℕ → TypeChoice
 typeFrom none = TypeChoice.Unset
 typeFrom (some n) = TypeChoice.Set (record { 0 = n })
@@ -124,33 +115,8 @@ rowPart row = partFrom (tagOf (getD row 2 0) (getD row 3 0))
 abbrev pub inputsFrom : List ℕ → SelectorInputs
 inputsFrom row = inputsWith (rowType row) (rowPart row) row
 
--- ---- answers and refusals
+-- ---- refusals
 
 -- "a count is over its size"
 abbrev pub over : ℕ → ℕ → ℕ → Bool
 over size n m = ltb size n || ltb size m
-
--- An owned subject: 2
-unfoldable pub ownedVerdict : ℕ → ℕ → ℕ
-ownedVerdict n m = firstOf (check 2 (over Sizes.SUBJECT-IDS n m) ∷ [])
-
--- The answer as numbers: 0, or a refusal's own number
-abbrev pub verdictTold : Verdict → List ℕ
-verdictTold Accepted = 0 ∷ []
-verdictTold (Refused r) = told r
-
--- the ids of two lists, 0 past them
-abbrev pub ownedOf : TypeChoice → PartChoice → List ℕ → List ℕ → SelectorInputs
-ownedOf t p classes pseudos = inputsOf t p (classesFrom 16 classes 0) (length classes) (pseudosFrom 16 pseudos 0) (length pseudos)
-
--- "they are sorted and made unique, as are an owned subject's"; the empty subject where it is refused
-unfoldable pub ownedInputs : TypeChoice → PartChoice → List ClassId → ℕ → List PseudoClassId → ℕ → SelectorInputs
-ownedInputs t p classes n pseudos m =
-    cond (eqb (ownedVerdict n m) 0)
-    (ownedOf t p (sort (spread (classNumber classes) 0 n)) (sort (spread (pseudoNumber pseudos) 0 m)))
-    (tagged TypeChoice.Unset PartChoice.Unset)
-
--- r is the owned subject, or its refusal
-pub record Owned (t : TypeChoice) (p : PartChoice) (classes : List ClassId) (n : ℕ) (pseudos : List PseudoClassId) (m : ℕ) (r : SelectorInputsOwned) : Type 0 where
-  pub verdict : verdictTold (r .verdict) ≡ answered (ownedVerdict n m) (0 ∷ [])
-  pub inputs : r .inputs ≡ ownedInputs t p classes n pseudos m

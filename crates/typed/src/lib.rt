@@ -1,14 +1,12 @@
 // Subjects by value, with typed numbers, and the rows that they are written to and read from.
-use lent::Refusal;
 use lent::words::copy_into;
-use selector::held::ids;
 ghost use mathlib.Core.Path.{_≡_};
-ghost use Prim.Native.Nat.{ℕ, _≤_};
+ghost use Prim.Native.Nat.{ℕ};
 ghost use lib.ListN.{drop, getD};
-ghost use Rattle.theory.specs.Lists.{sort, spread};
-ghost use Rattle.selector.specs.Rows.{tagOf, tagNumber, wordsFrom};
+ghost use Rattle.theory.specs.Lists.{spread};
+ghost use Rattle.selector.specs.Rows.{tagOf, tagNumber};
 ghost use Rattle.selector.specs.Weighing.{isSet};
-ghost use Rattle.typed.specs.Typed.{typeOf, partOf, classNumber, pseudoNumber, noClasses, inputsOf, tagged, rowWith, inputsRow, typeFrom, partFrom, inputsWith, inputsFrom, idsRow, Owned};
+ghost use Rattle.typed.specs.Typed.{typeOf, partOf, classNumber, pseudoNumber, noClasses, inputsOf, tagged, rowWith, inputsRow, typeFrom, partFrom, inputsWith, inputsFrom};
 
 pub struct TypeTag(pub u32);
 
@@ -279,7 +277,7 @@ impl SelectorInputs {
     }
 
     // The same after the first four words.
-    fn from_words(type_tag: TypeChoice, part_tag: PartChoice, w: [u32; 38]) -> Self
+    pub fn from_words(type_tag: TypeChoice, part_tag: PartChoice, w: [u32; 38]) -> Self
         ensures { λ r. ⌜ r ≡ inputsWith «type_tag» «part_tag» w ⌝ }
     {
         let classes = [
@@ -325,99 +323,6 @@ impl SelectorInputs {
             class_count: w[4],
             pseudos,
             pseudo_count: w[5],
-        }
-    }
-}
-
-// Whether a call was accepted.
-pub enum Verdict {
-    Accepted,
-    Refused(Refusal),
-}
-
-// A subject whose ids were sorted and made unique; the empty one where they were refused.
-pub struct SelectorInputsOwned {
-    pub verdict: Verdict,
-    pub inputs: SelectorInputs,
-}
-
-// A subject row without its tags, its ids sorted and made unique, 0 past them.
-fn sorted_row(given: [u32; 38]) -> [u32; 38]
-    requires { ⌜ (getD given 4 0 ≤ 16) × (getD given 5 0 ≤ 16) ⌝ }
-    ensures { λ r. ⌜ r ≡ idsRow (sort (wordsFrom given 6 (getD given 4 0))) (sort (wordsFrom given 22 (getD given 5 0))) ⌝ }
-{
-    let mut classes = [0u32; 16];
-    let mut pseudos = [0u32; 16];
-    let class_count = idset::held::from_ids(ids(&given, 6, 4), &mut classes);
-    let pseudo_count = idset::held::from_ids(ids(&given, 22, 5), &mut pseudos);
-    let mut row = [0u32; 38];
-    row[4] = class_count as u32;
-    row[5] = pseudo_count as u32;
-    copy_into(&mut row, 6, &classes);
-    copy_into(&mut row, 22, &pseudos);
-    row
-}
-
-impl SelectorInputsOwned {
-    fn over_size() -> Self
-        ensures { λ r. ⌜ r ≡ record { verdict = Verdict.Refused Refusal.OverSize; inputs = tagged TypeChoice.Unset PartChoice.Unset } ⌝ }
-    {
-        let none = SelectorInputs::EMPTY;
-        Self {
-            verdict: Verdict::Refused(Refusal::OverSize),
-            inputs: none,
-        }
-    }
-
-    // Without a part.
-    pub fn new(
-        type_tag: TypeChoice,
-        classes: [ClassId; 16],
-        class_count: u32,
-        pseudos: [PseudoClassId; 16],
-        pseudo_count: u32,
-    ) -> Self
-        ensures { λ r. ⌜ Owned «type_tag» PartChoice.Unset classes «class_count» pseudos «pseudo_count» r ⌝ }
-    {
-        Self::with_part(
-            type_tag,
-            PartChoice::Unset,
-            classes,
-            class_count,
-            pseudos,
-            pseudo_count,
-        )
-    }
-
-    // The ids in any order and repeated.
-    pub fn with_part(
-        type_tag: TypeChoice,
-        part_tag: PartChoice,
-        classes: [ClassId; 16],
-        class_count: u32,
-        pseudos: [PseudoClassId; 16],
-        pseudo_count: u32,
-    ) -> Self
-        ensures { λ r. ⌜ Owned «type_tag» «part_tag» classes «class_count» pseudos «pseudo_count» r ⌝ }
-    {
-        if 16 < class_count {
-            return Self::over_size();
-        }
-        if 16 < pseudo_count {
-            return Self::over_size();
-        }
-        let given = SelectorInputs::with_part(
-            type_tag,
-            part_tag,
-            classes,
-            class_count,
-            pseudos,
-            pseudo_count,
-        );
-        let inputs = SelectorInputs::from_words(type_tag, part_tag, sorted_row(given.row()));
-        Self {
-            verdict: Verdict::Accepted,
-            inputs,
         }
     }
 }

@@ -21,7 +21,7 @@ module _ (s : Walking) (r : Record) (e : ends s r ≡ true) where
   -- no entering has that refusal
   not-entered : r .kind ≡ 10 → ⊥
   unfolding ends walkingVerdict
-  not-entered k = true≢false (sym (rw k at e) ∙ sym (enter-not-ten s (r .first) 0))
+  not-entered k = true≢false (sym (rw k at e) ∙ sym (enter-not-ten s (r .first)))
 
   item-ten : r .kind ≡ 9 → itemFault (s .items) (r .first) ≡ 10
   unfolding walkingVerdict

@@ -1,13 +1,12 @@
 -- A walk record by record: what is printed so far, and what is still to be printed. Assumes nothing.
 use mathlib.Core.Path.{_≡_, refl, sym, ap, _∙_}
-use mathlib.Core.Bool.{Bool, true, false, cond, not, true≢false}
+use mathlib.Core.Bool.{Bool, true, false, cond, true≢false}
 use mathlib.Core.List.{List, [], _++_, append-nil}
 use Prim.Native.Nat.{ℕ, _+_, _-_, _≤_, _<_}
 use native.Mathlib.Omega.{arith}
+use native.Mathlib.Decide.{ℕ-discrete}
 use lib.ListN.{length, take, drop, length-append, length-drop}
 use lib.Seq.{sets-eq, length-sets, length-take-le, take-at, drop-at, drop-drop}
-use lib.Dec.{eqb}
-use borrow.Author.Tests.{eqb-true, eqb-false}
 use Rattle.lent.proofs.Pool.{rest-all}
 use Rattle.table.specs.Tables.{Table}
 use Rattle.records.specs.declared.Record.{Record}
@@ -21,9 +20,9 @@ use Rattle.house.specs.declared.Walked.{Walked}
 use Rattle.house.specs.House.{walks, outcome, stops, leads, printing, reachedIn, reached}
 use Rattle.house.specs.Memory.{Refused, WalkedSoFar, FedWalk}
 use Rattle.house.specs.Memory.Refused.{whole, unknown}
-use Rattle.walking.specs.Answering.{PastReply, Answers, Steps, answered, refused, Next, Last, Awaits}
+use Rattle.walking.specs.Answering.{PastReply, Answers, Next, Last, Ahead, Ended}
 use Rattle.house.proofs.Walk.{reached-next}
-use Rattle.house.proofs.Front.{rested, frontOf, front-whole, front-unknown, front-cut, none-cut, item-size, item-room}
+use Rattle.house.proofs.Front.{rested, frontOf, front-whole, front-unknown, front-cut, none-cut, item-size, item-known, item-room}
 use Rattle.walking.proofs.Rows.{ready-after}
 use Rattle.walking.proofs.Long.{refused-short, line-short}
 use Rattle.walking.proofs.Ends.{line-ends, items-ends, table-ends}
@@ -89,6 +88,25 @@ going-start y h = record {
   long = h;
   none = λ e x. refl;
 }
+
+-- a reply, as the code reads the record
+answers-is : {w : List ℕ} {t : Table} {items : List ℕ} {v : Walked} {out out′ : List ℕ} {t′ : Table} {items′ : List ℕ} {a : Replied} {r : Walked}
+    → (bytes : List ℕ) (item : Record)
+    → item ≡ recordIn bytes
+    → (size : ℕ)
+    → size ≡ sizeOf (item .kind)
+    → Replies (walking w t items) (v .offset) item out (v .used) a out′ t′ items′
+    → PastReply v size a r
+    → Answers bytes w t items v out r out′ t′ items′
+answers-is {v = v} {a = a} bytes item e size z p q =
+    let y = item-size bytes item e size z in
+    let s = q .told .1 in
+    record {
+      replies = rw (q .told .0, s, ← e) (record { line = p .line; table = p .table; items = p .items; ends = p .ends });
+      stays = λ x. q .stays (sym s ∙ x);
+      goes = λ x. rw (← y) (q .goes (sym s ∙ x));
+      reach = λ x h. rw (← y) (q .reach (sym s ∙ x) (rw y h));
+    }
 
 module _ {input : List ℕ} {offset : ℕ} {w : List ℕ} {t₀ : Table} {items₀ out₀ : List ℕ} {v : Walked} {out : List ℕ} {t : Table} {items : List ℕ}
     (g : Going input offset w t₀ items₀ out₀ v out t items) (n : Next input v) where
@@ -217,80 +235,73 @@ module _ {input : List ℕ} {offset : ℕ} {w : List ℕ} {t₀ : Table} {items�
         by true e = omega (arith, a .stays e .0)
         by false e = omega (arith, a .goes e, size-some (kindOf here), n .left)
 
-  stepped : {r : Walked} {out′ : List ℕ} {t′ : Table} {items′ : List ℕ} → Steps here w t items v out r out′ t′ items′ → Going input offset w t₀ items₀ out₀ r out′ t′ items′
-  stepped (answered is-whole a) = going-next a is-whole
-  stepped {r} {out′} (refused k s p (x, y)) = rw (x, y) (going-over r out′ s p (λ room. unknown (omega (arith, here-length, n .left)) k refl))
+  module _ (is-whole : isWhole here ≡ true) {item : Record} (i : item ≡ recordIn (rested input (v .at))) {a : Replied} {out′ : List ℕ} {t′ : Table} {items′ : List ℕ}
+      (p : Replies (walking w t items) (v .offset) item out (v .used) a out′ t′ items′) {r : Walked} (q : PastReply v (sizeOf (item .kind)) a r) where
+    answers : Answers here w t items v out r out′ t′ items′
+    answers = answers-is here item (rw (rest-all input (v .at)) at i) (sizeOf (item .kind)) refl p q
 
-  lessened : {r : Walked} {out′ : List ℕ} {t′ : Table} {items′ : List ℕ} → Steps here w t items v out r out′ t′ items′ → left input r < left input v
-  lessened (answered is-whole a) = answer-less a is-whole
-  lessened (refused k s (p, q, e) m) = rw (n .opened, e) (omega arith)
-
-  module _ {r : Walked} {out′ : List ℕ} {t′ : Table} {items′ : List ℕ} (s : Steps (rested input (v .at)) w t items v out r out′ t′ items′) where
     -- a step leads from what is so to what is so, and on
     pub going-step : Going input offset w t₀ items₀ out₀ r out′ t′ items′
-    going-step = stepped (rw (rest-all input (v .at)) at s)
+    going-step = going-next answers is-whole
 
     pub step-less : left input r < left input v
-    step-less = lessened (rw (rest-all input (v .at)) at s)
+    step-less = answer-less answers is-whole
 
-  -- what a step asks for: a record that is whole, room for a line, and a place that fits
+  -- what a step asks for: room for a line
   pub going-room : Room (v .used) out
   going-room = omega (arith, g .long, n .few)
 
 -- where there is none more, that is all
-pub going-fed : {input : List ℕ} {offset : ℕ} {w : List ℕ} {t₀ : Table} {items₀ out₀ : List ℕ} {v : Walked} {out : List ℕ} {t : Table} {items : List ℕ}
-    → Going input offset w t₀ items₀ out₀ v out t items
-    → Last input v
-    → FedWalk input offset w t₀ items₀ out₀ v out t items
-going-fed g h = record { walked = g .far; cut = λ e x. h .cut e (g .none e x) x }
+module _ {input : List ℕ} {offset : ℕ} {w : List ℕ} {t₀ : Table} {items₀ out₀ : List ℕ} {v : Walked} {out : List ℕ} {t : Table} {items : List ℕ}
+    (g : Going input offset w t₀ items₀ out₀ v out t items) {found : ℕ} (a : Ahead input v found) where
+  pub end-room : found ≡ 2 → Room (v .used) out
+  end-room u = going-room g (a .unknown u .0)
+
+  pub going-fed : (found ≡ 0 → ⊥) → {r : Walked} {out′ : List ℕ} → Ended v found out r out′ → FedWalk input offset w t₀ items₀ out₀ r out′ t items
+  going-fed z {r} {out′} e = elim (ℕ-discrete found 2) [
+    | yes u ↦ let (n, k) = a .unknown u in
+        let far = going-over g n r out′ (e .said u) (e .place u) (λ room. unknown (omega (arith, length-drop (v .at) input, n .left)) k refl) in
+        record { walked = far .far; cut = λ _ x. absurd (true≢false (sym (e .place u .2) ∙ x)) }
+    | no u ↦ let (p, q) = e .keeps u in
+        rw (p, q) (record { walked = g .far; cut = λ h x. a .rests z u .cut h (g .none h x) x })
+  ]
 
 -- ---- whether there is a step
 
-module _ {input : List ℕ} {v : Walked} (n : Next input v) where
-  pub next-whole : known (kindOf (rested input (v .at))) ≡ true → isWhole (rested input (v .at)) ≡ true
-  next-whole = rw (rest-all input (v .at)) (n .whole)
+-- the record that comes next is whole, of a known kind, and its end has a place
+module _ {input : List ℕ} {v : Walked} (n : Next input v) (w : isWhole (drop (v .at) input) ≡ true) where
+  pub next-whole : isWhole (rested input (v .at)) ≡ true
+  next-whole = rw (rest-all input (v .at)) w
 
-  pub next-within : length input < 18446744073709551616 → v .at + length (rested input (v .at)) < 18446744073709551616
-  next-within h = rw (rest-all input (v .at), length-drop (v .at) input) (omega (arith, n .left))
+  pub next-past : {item : Record} → item ≡ recordIn (rested input (v .at)) → length input < 18446744073709551616 → (item .kind ≤ 12) × (v .at + sizeOf (item .kind) < 18446744073709551616)
+  next-past {item} e h = (
+    item-known (rested input (v .at)) item e next-whole,
+    item-room (rested input (v .at)) item e next-whole (sizeOf (item .kind)) (v .at) (v .at) refl refl (rw (rest-all input (v .at), length-drop (v .at) input) (omega (arith, n .left))),
+  )
 
 module _ {input : List ℕ} {v : Walked} where
-  awaits-not : Last input v → Awaits input v false
-  awaits-not h = record { goes = λ e. absurd (true≢false (sym e)); rests = λ e. h }
+  ahead-not : Last input v → Ahead input v 1
+  ahead-not h = record { takes = λ z. absurd (omega arith); unknown = λ z. absurd (omega arith); rests = λ _ _. h }
 
-  pub awaits-ends : v .ends ≡ true → Awaits input v false
-  awaits-ends h = awaits-not (record { cut = λ p q e. absurd (true≢false (sym h ∙ e)) })
+  pub ahead-ends : v .ends ≡ true → Ahead input v 1
+  ahead-ends h = ahead-not (record { cut = λ p q e. absurd (true≢false (sym h ∙ e)) })
 
-  pub awaits-full : 40000 < v .used → Awaits input v false
-  awaits-full h = awaits-not (record { cut = λ p q e. absurd (omega arith) })
+  pub ahead-full : 40000 < v .used → Ahead input v 1
+  ahead-full h = ahead-not (record { cut = λ p q e. absurd (omega arith) })
 
-  pub awaits-none : length input ≤ v .at → Awaits input v false
-  awaits-none h = awaits-not (record { cut = λ p q e. none-cut input (omega arith) })
+  pub ahead-none : length input ≤ v .at → Ahead input v 1
+  ahead-none h = ahead-not (record { cut = λ p q e. none-cut input (omega arith) })
 
 -- by what is at the front
-module _ {input : List ℕ} {v : Walked} (r : ℕ) where
-  awaits-next : r ≡ frontOf (drop (v .at) input) → v .at < length input → v .ends ≡ false → v .used ≤ 40000 → (r ≡ 1 → ⊥) → Awaits input v true
-  awaits-next e l o f x = record {
-    goes = λ h. record {
-      left = l;
-      opened = o;
-      few = f;
-      whole = λ k. front-whole (drop (v .at) input) r e x (λ z. true≢false (sym k ∙ front-unknown (drop (v .at) input) r e z));
-    };
-    rests = λ h. absurd (true≢false h);
-  }
-
-  awaits-cut : r ≡ frontOf (drop (v .at) input) → r ≡ 1 → Awaits input v false
-  awaits-cut e x = awaits-not (record { cut = λ p q z. rw p at (front-cut (drop (v .at) input) r e x) })
-
-  pub awaits-front : r ≡ frontOf (rested input (v .at)) → v .at < length input → v .ends ≡ false → v .used ≤ 40000 → Awaits input v (not (eqb r 1))
-  awaits-front e l o f = by (eqb r 1) refl
-    where
-      here : r ≡ frontOf (drop (v .at) input)
-      here = rw (rest-all input (v .at)) at e
-
-      by : (b : Bool) → eqb r 1 ≡ b → Awaits input v (not b)
-      by true q = awaits-cut here (eqb-true r 1 q)
-      by false q = awaits-next here l o f (eqb-false r 1 q)
+pub ahead-front : {input : List ℕ} {v : Walked} (r : ℕ) → r ≡ frontOf (rested input (v .at)) → v .at < length input → v .ends ≡ false → v .used ≤ 40000 → Ahead input v r
+ahead-front {input} {v} r e l o f =
+    let here : r ≡ frontOf (drop (v .at) input) = rw (rest-all input (v .at)) at e in
+    let n : Next input v = record { left = l; opened = o; few = f } in
+    record {
+      takes = λ z. (n, front-whole (drop (v .at) input) r here (λ x. omega (arith, z, x)) (λ x. omega (arith, z, x)));
+      unknown = λ u. (n, front-unknown (drop (v .at) input) r here u);
+      rests = λ x y. record { cut = λ p q z. rw p at (front-cut (drop (v .at) input) r here x y) };
+    }
 
 -- ---- the ways through the functions
 
@@ -298,36 +309,17 @@ module _ {input : List ℕ} {v : Walked} (r : ℕ) where
 pub reply-ends : (v : Walked) (size : ℕ) (a : Replied) → a .ends ≡ true → PastReply v size a (record { at = v .at; offset = v .offset; used = a .used; ends = true })
 reply-ends v size a q = record { told = (refl, sym q); stays = λ _. (refl, refl); goes = λ x. absurd (true≢false (sym q ∙ x)); reach = λ x. absurd (true≢false (sym q ∙ x)) }
 
-pub reply-goes : (v : Walked) (size : ℕ) (a : Replied) (off : ℕ)
+pub reply-goes : (v : Walked) (kind size : ℕ) (a : Replied) (off : ℕ)
     → a .ends ≡ false
+    → size ≡ sizeOf kind
     → (v .offset + size < 18446744073709551616 → off ≡ v .offset + size)
-    → PastReply v size a (record { at = v .at + size; offset = off; used = a .used; ends = false })
-reply-goes v size a off q f = record { told = (refl, sym q); stays = λ x. absurd (true≢false (sym x ∙ q)); goes = λ _. refl; reach = λ _ h. f h }
+    → PastReply v (sizeOf kind) a (record { at = v .at + size; offset = off; used = a .used; ends = false })
+reply-goes v kind size a off q z f = rw (← z) (record { told = (refl, sym q); stays = λ x. absurd (true≢false (sym x ∙ q)); goes = λ _. refl; reach = λ _ h. f h })
 
-pub place-fits : (bytes : List ℕ) (item : Record) (size at : ℕ) → item ≡ recordIn bytes → size ≡ sizeOf (item .kind) → isWhole bytes ≡ true → at + length bytes < 18446744073709551616 → at + size < 18446744073709551616
-place-fits bytes item size at e z w h = item-room bytes item e w size at at z refl h
+-- at the end
+module _ (v : Walked) (found : ℕ) (out : List ℕ) where
+  pub end-keeps : (found ≡ 2 → ⊥) → Ended v found out v out
+  end-keeps n = record { said = λ e. absurd (n e); place = λ e. absurd (n e); keeps = λ _. (refl, refl) }
 
-pub answers-is : {w : List ℕ} {t : Table} {items : List ℕ} {v : Walked} {out out′ : List ℕ} {t′ : Table} {items′ : List ℕ} {a : Replied} {r : Walked}
-    → (bytes : List ℕ) (item : Record)
-    → item ≡ recordIn bytes
-    → (size : ℕ)
-    → size ≡ sizeOf (item .kind)
-    → Replies (walking w t items) (v .offset) item out (v .used) a out′ t′ items′
-    → PastReply v size a r
-    → Answers bytes w t items v out r out′ t′ items′
-answers-is {v = v} {a = a} bytes item e size z p q =
-    let y = item-size bytes item e size z in
-    let s = q .told .1 in
-    record {
-      replies = rw (q .told .0, s, ← e) (record { line = p .line; table = p .table; items = p .items; ends = p .ends });
-      stays = λ x. q .stays (sym s ∙ x);
-      goes = λ x. rw (← y) (q .goes (sym s ∙ x));
-      reach = λ x h. rw (← y) (q .reach (sym s ∙ x) (rw y h));
-    }
-
--- a kind that is known
-pub known-whole : (bytes : List ℕ) (kind : ℕ) (k : Bool) → (known (kindOf bytes) ≡ true → isWhole bytes ≡ true) → kind ≡ kindOf bytes → k ≡ known kind → k ≡ true → isWhole bytes ≡ true
-known-whole bytes kind k f e q h = f (ap known (sym e) ∙ sym q ∙ h)
-
-pub not-known : (bytes : List ℕ) (kind : ℕ) (k : Bool) → kind ≡ kindOf bytes → k ≡ known kind → k ≡ false → known (kindOf bytes) ≡ false
-not-known bytes kind k e q h = ap known (sym e) ∙ sym q ∙ h
+  pub end-refuses : found ≡ 2 → (used : ℕ) (out′ : List ℕ) → Said (refusedLine 10 (v .offset)) out (v .used) used out′ → Ended v found out (record { at = v .at; offset = v .offset; used = used; ends = true }) out′
+  end-refuses e used out′ s = record { said = λ _. s; place = λ _. (refl, refl, refl); keeps = λ n. absurd (n e) }

@@ -1,6 +1,6 @@
 -- What is at the front of the rest of a piece, after kind 8, and one step over lent memory. For contracts within and cores alone. Assumes nothing.
 use mathlib.Core.Path.{_≡_}
-use mathlib.Core.Bool.{Bool, true, false}
+use mathlib.Core.Bool.{true, false}
 use mathlib.Core.List.{List}
 use Prim.Native.Nat.{ℕ, _+_, _≤_, _<_}
 use lib.ListN.{length, drop}
@@ -27,26 +27,24 @@ pub record Answers (bytes w : List ℕ) (t : Table) (items : List ℕ) (v : Walk
   pub goes : r .ends ≡ false → r .at ≡ v .at + sizeOf (kindOf bytes)
   pub reach : r .ends ≡ false → v .offset + sizeOf (kindOf bytes) < 18446744073709551616 → r .offset ≡ v .offset + sizeOf (kindOf bytes)
 
--- a step: a record answered, or a byte that is no kind refused
-pub data Steps (bytes w : List ℕ) (t : Table) (items : List ℕ) (v : Walked) (out : List ℕ) (r : Walked) (out′ : List ℕ) (t′ : Table) (items′ : List ℕ) : Type 0 where
-  answered : isWhole bytes ≡ true → Answers bytes w t items v out r out′ t′ items′ → Steps bytes w t items v out r out′ t′ items′
-  refused : known (kindOf bytes) ≡ false
-      → Said (refusedLine 10 (v .offset)) out (v .used) (r .used) out′
-      → (r .at ≡ v .at) × (r .offset ≡ v .offset) × (r .ends ≡ true)
-      → (t′ ≡ t) × (items′ ≡ items)
-      → Steps bytes w t items v out r out′ t′ items′
-
--- there is a step to take: what is left is not the beginning of a record, and a line more has room
+-- something is left, the program goes on, and a line more has room
 pub record Next (input : List ℕ) (v : Walked) : Type 0 where
   pub left : v .at < length input
   pub opened : v .ends ≡ false
   pub few : v .used ≤ 40000
-  pub whole : known (kindOf (drop (v .at) input)) ≡ true → isWhole (drop (v .at) input) ≡ true
 
 -- there is none; where none was taken either, there is none to take
 pub record Last (input : List ℕ) (v : Walked) : Type 0 where
   pub cut : v .at ≡ 0 → v .used ≡ 0 → v .ends ≡ false → Cut input
 
-pub record Awaits (input : List ℕ) (v : Walked) (r : Bool) : Type 0 where
-  pub goes : r ≡ true → Next input v
-  pub rests : r ≡ false → Last input v
+-- what stands ahead: a record to answer (0), a byte that is no kind (2), or no step to take
+pub record Ahead (input : List ℕ) (v : Walked) (found : ℕ) : Type 0 where
+  pub takes : found ≡ 0 → Next input v × (isWhole (drop (v .at) input) ≡ true)
+  pub unknown : found ≡ 2 → Next input v × (known (kindOf (drop (v .at) input)) ≡ false)
+  pub rests : (found ≡ 0 → ⊥) → (found ≡ 2 → ⊥) → Last input v
+
+-- the refusal of such a byte ends the program
+pub record Ended (v : Walked) (found : ℕ) (out : List ℕ) (r : Walked) (out′ : List ℕ) : Type 0 where
+  pub said : found ≡ 2 → Said (refusedLine 10 (v .offset)) out (v .used) (r .used) out′
+  pub place : found ≡ 2 → (r .at ≡ v .at) × (r .offset ≡ v .offset) × (r .ends ≡ true)
+  pub keeps : (found ≡ 2 → ⊥) → (r ≡ v) × (out′ ≡ out)

@@ -2,28 +2,25 @@
 use house::Walked;
 use house::held::front;
 use house::held::further;
-use records::held::is_known;
-use records::held::kind_of;
 use records::held::record_in;
 use records::held::size_of;
 use replies::Replied;
 use replies::held::reply;
 use wording::held::refused;
 ghost use mathlib.Core.Path.{_≡_};
-ghost use mathlib.Core.Bool.{true};
-ghost use Prim.Native.Nat.{_+_, _<_};
+ghost use Prim.Native.Nat.{_+_, _≤_, _<_};
 ghost use lib.ListN.{length};
 ghost use Rattle.table.specs.Tables.{table};
-ghost use Rattle.records.specs.Records.{known, kindOf, isWhole};
+ghost use Rattle.records.specs.Records.{sizeOf};
 ghost use Rattle.wording.specs.Lines.{Room};
 ghost use Rattle.replies.specs.Memory.{Ready};
 ghost use Rattle.house.specs.Memory.{FedWalk};
-ghost use Rattle.walking.specs.Answering.{PastReply, Answers, Steps, Awaits};
+ghost use Rattle.walking.specs.Answering.{PastReply, Ahead, Ended};
 
 // After a reply: past the record, unless it ends the program.
-fn past_reply(w: Walked, size: usize, answer: Replied) -> Walked
-    requires { ⌜ w .at + size < 18446744073709551616 ⌝ }
-    ensures { λ r. ⌜ PastReply w size answer r ⌝ }
+fn past_reply(w: Walked, kind: u32, answer: Replied) -> Walked
+    requires { ⌜ (kind ≤ 12) × (w .at + sizeOf kind < 18446744073709551616) ⌝ }
+    ensures { λ r. ⌜ PastReply w (sizeOf kind) answer r ⌝ }
 {
     if answer.ends {
         return Walked {
@@ -32,6 +29,7 @@ fn past_reply(w: Walked, size: usize, answer: Replied) -> Walked
             ..w
         };
     }
+    let size = size_of(kind);
     Walked {
         at: w.at + size,
         offset: further(w.offset, size),
@@ -40,86 +38,30 @@ fn past_reply(w: Walked, size: usize, answer: Replied) -> Walked
     }
 }
 
-fn answer_front(
-    w: Walked,
-    rest: &[u8],
-    sheet: &[u32],
-    head: &mut [u32],
-    states: &mut [u32],
-    cursors: &mut [u32],
-    matched: &mut [u32],
-    transitions: &mut [u32],
-    items: &mut [u32],
-    out: &mut [u8],
-) -> Walked
-    requires { ⌜ Ready (now sheet) (table (now head) (now states) (now cursors) (now matched) (now transitions)) (now items) ⌝ }
-    requires { ⌜ (isWhole (now rest) ≡ true) × Room (w .used) (now out) × (w .at + length (now rest) < 18446744073709551616) ⌝ }
-    ensures { λ r. ⌜ Answers (now (rest .entry)) (now (sheet .entry)) (table (now (head .entry)) (now (states .entry)) (now (cursors .entry)) (now (matched .entry)) (now (transitions .entry))) (now (items .entry)) w (now (out .entry)) r (now (out .exit)) (table (now (head .exit)) (now (states .exit)) (now (cursors .exit)) (now (matched .exit)) (now (transitions .exit))) (now (items .exit)) ⌝ }
-{
-    let item = record_in(rest);
-    let answer = reply(
-        sheet,
-        head,
-        states,
-        cursors,
-        matched,
-        transitions,
-        items,
-        item,
-        out,
-        w.used,
-        w.offset,
-    );
-    past_reply(w, size_of(item.kind), answer)
-}
-
-// Whether there is something to take: not only the beginning of a record, and room for a line more.
-fn awaits(input: &[u8], w: Walked) -> bool
-    ensures { λ r. ⌜ Awaits (now (input .entry)) w r ⌝ }
+// What stands ahead in a piece: a record to answer (0), none, or no room for a line more (1), or a byte that is no kind (2).
+fn ahead(input: &[u8], w: Walked) -> u32
+    ensures { λ r. ⌜ Ahead (now (input .entry)) w r ⌝ }
 {
     if w.ends {
-        return false;
+        return 1;
     }
     if 40000 < w.used {
-        return false;
+        return 1;
     }
     let at = w.at;
     if input.len() <= at {
-        return false;
+        return 1;
     }
-    front(&input[at..]) != 1
+    front(&input[at..])
 }
 
-// A record at the front answered, or a byte that is no kind refused.
-fn step(
-    w: Walked,
-    rest: &[u8],
-    sheet: &[u32],
-    head: &mut [u32],
-    states: &mut [u32],
-    cursors: &mut [u32],
-    matched: &mut [u32],
-    transitions: &mut [u32],
-    items: &mut [u32],
-    out: &mut [u8],
-) -> Walked
-    requires { ⌜ Ready (now sheet) (table (now head) (now states) (now cursors) (now matched) (now transitions)) (now items) ⌝ }
-    requires { ⌜ (known (kindOf (now rest)) ≡ true → isWhole (now rest) ≡ true) × Room (w .used) (now out) × (w .at + length (now rest) < 18446744073709551616) ⌝ }
-    ensures { λ r. ⌜ Steps (now (rest .entry)) (now (sheet .entry)) (table (now (head .entry)) (now (states .entry)) (now (cursors .entry)) (now (matched .entry)) (now (transitions .entry))) (now (items .entry)) w (now (out .entry)) r (now (out .exit)) (table (now (head .exit)) (now (states .exit)) (now (cursors .exit)) (now (matched .exit)) (now (transitions .exit))) (now (items .exit)) ⌝ }
+// A byte that is no kind is refused.
+fn end(w: Walked, found: u32, out: &mut [u8]) -> Walked
+    requires { ⌜ (found ≡ 2 → Room (w .used) (now out)) ⌝ }
+    ensures { λ r. ⌜ Ended w found (now (out .entry)) r (now (out .exit)) ⌝ }
 {
-    if is_known(kind_of(rest)) {
-        return answer_front(
-            w,
-            rest,
-            sheet,
-            head,
-            states,
-            cursors,
-            matched,
-            transitions,
-            items,
-            out,
-        );
+    if found != 2 {
+        return w;
     }
     let used = refused(out, w.used, 10, w.offset);
     Walked {
@@ -151,11 +93,11 @@ pub fn feed_walk(
         used: 0,
         ends: false,
     };
-    while awaits(input, w) {
+    let mut found = ahead(input, w);
+    while found == 0 {
         let at = w.at;
-        w = step(
-            w,
-            &input[at..],
+        let item = record_in(&input[at..]);
+        let answer = reply(
             sheet,
             head,
             states,
@@ -163,8 +105,13 @@ pub fn feed_walk(
             matched,
             transitions,
             items,
+            item,
             out,
+            w.used,
+            w.offset,
         );
+        w = past_reply(w, item.kind, answer);
+        found = ahead(input, w);
     }
-    w
+    end(w, found, out)
 }

@@ -9,7 +9,7 @@ use std::time::{Duration, Instant};
 
 use crate::batches::{Batch, Form};
 use crate::records::{pieces, read};
-use crate::run::{Output, run};
+use crate::run::{Output, Runner, Way, run};
 use crate::shrink::{drop_some, lower, shrink_file};
 use crate::walk::walk;
 
@@ -296,21 +296,24 @@ const FILES_AT_ONCE: usize = 128;
 /// Each file is a run of its own, for that is how `walk` reads; as many run at
 /// once as there are cores.
 pub fn compare_files(
-    command: &str,
+    way: Way<'_>,
     seed: u64,
     count: usize,
     files: impl Iterator<Item = Vec<u8>>,
 ) -> Result<Option<Different>, String> {
     let progress = Progress::new("files");
+    let cores = thread::available_parallelism().map_or(1, usize::from);
+    let runners = (0..cores).map(|number| Runner::start(way, number));
+    let mut runners = runners.collect::<Result<Vec<_>, _>>()?;
     let mut files = files.peekable();
     let mut done = 0;
     while files.peek().is_some() {
         let some: Vec<Vec<u8>> = files.by_ref().take(FILES_AT_ONCE).collect();
-        for (place, line) in differences(command, &some)?.into_iter().enumerate() {
+        for (place, line) in differences(&mut runners, &some)?.into_iter().enumerate() {
             if let Some(line) = line {
                 progress.shrinking();
                 let file = some[place].clone();
-                return tell_file(command, seed, done + place, file, line).map(Some);
+                return tell_file(&mut runners[0], seed, done + place, file, line).map(Some);
             }
         }
         done += some.len();
@@ -320,20 +323,21 @@ pub fn compare_files(
 }
 
 /// The difference in each of some files, if there is one.
-fn differences(command: &str, files: &[Vec<u8>]) -> Result<Vec<Option<Line>>, String> {
-    let cores = thread::available_parallelism().map_or(1, usize::from);
-    let next = AtomicUsize::new(0);
-    let some = || {
-        let mut found = Vec::new();
-        while let place = next.fetch_add(1, Ordering::Relaxed)
-            && let Some(file) = files.get(place)
-        {
-            found.push((place, file_difference(command, file)));
-        }
-        found
-    };
+fn differences(runners: &mut [Runner<'_>], files: &[Vec<u8>]) -> Result<Vec<Option<Line>>, String> {
+    let next = &AtomicUsize::new(0);
     let mut all = thread::scope(|scope| {
-        let threads: Vec<_> = (0..cores).map(|_| scope.spawn(some)).collect();
+        let mut threads = Vec::new();
+        for runner in runners {
+            threads.push(scope.spawn(move || {
+                let mut found = Vec::new();
+                while let place = next.fetch_add(1, Ordering::Relaxed)
+                    && let Some(file) = files.get(place)
+                {
+                    found.push((place, file_difference(runner, file)));
+                }
+                found
+            }));
+        }
         let found = threads.into_iter().flat_map(|thread| {
             let found = thread.join();
             found.expect("a comparison goes to its end")
@@ -344,8 +348,8 @@ fn differences(command: &str, files: &[Vec<u8>]) -> Result<Vec<Option<Line>>, St
     all.into_iter().map(|(_, difference)| difference).collect()
 }
 
-fn file_difference(command: &str, file: &[u8]) -> Result<Option<Line>, String> {
-    let output = run(command, file)?;
+fn file_difference(runner: &mut Runner<'_>, file: &[u8]) -> Result<Option<Line>, String> {
+    let output = runner.run(file)?;
     Ok(first_difference(walk(file).as_bytes(), &output))
 }
 
@@ -354,7 +358,7 @@ const CUT_OFF: &str = "the search is cut off";
 
 /// Makes a file that differs small, and tells of it.
 fn tell_file(
-    command: &str,
+    runner: &mut Runner<'_>,
     seed: u64,
     number: usize,
     file: Vec<u8>,
@@ -367,7 +371,7 @@ fn tell_file(
         if !search.may_go_on() {
             return Err(CUT_OFF.to_string());
         }
-        let differs = file_difference(command, tried)?.is_some();
+        let differs = file_difference(runner, tried)?.is_some();
         if differs {
             best = tried.clone();
         }
@@ -379,7 +383,7 @@ fn tell_file(
         Err(trouble) => return Err(trouble),
     };
 
-    let line = file_difference(command, &small)?.unwrap_or(line);
+    let line = file_difference(runner, &small)?.unwrap_or(line);
     let how = search.told();
     let mut told = format!("a difference in files, seed {seed}, file {number}; {how}:\n");
     told += &told_file(&small);

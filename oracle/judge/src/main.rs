@@ -1,32 +1,4 @@
-//! A judge for document 01: it answers cases from the published code, makes
-//! cases from a seed, and compares a command's answers with its own.
-
-mod asking;
-mod batches;
-mod builds;
-mod compare;
-mod faults;
-mod generate;
-mod lists;
-mod options;
-mod paths;
-mod records;
-mod run;
-mod sheet;
-mod shrink;
-#[cfg(test)]
-mod tests;
-#[cfg(test)]
-mod tests_of_builds;
-#[cfg(test)]
-mod tests_of_cascades;
-#[cfg(test)]
-mod tests_of_files;
-#[cfg(test)]
-mod tests_of_walks;
-mod walk;
-mod walks;
-mod words;
+//! The command line.
 
 use std::collections::BTreeSet;
 use std::fs;
@@ -34,14 +6,16 @@ use std::io::{self, Read, Write};
 use std::path::Path;
 use std::process::ExitCode;
 
-use batches::{Batch, Form, build_batches, list_batches, path_batches, walk_batches};
-use builds::BuildCase;
-use compare::{compare_cases, compare_files};
-use generate::random::Random;
-use options::{Options, What};
-use paths::PathCase;
-use walks::WalkCase;
-use words::Case;
+use judge::batches::{Batch, Form, build_batches, list_batches, path_batches, walk_batches};
+use judge::builds::BuildCase;
+use judge::compare::{compare_cases, compare_files};
+use judge::generate::random::Random;
+use judge::options::{Options, What};
+use judge::paths::PathCase;
+use judge::run::Way;
+use judge::walk;
+use judge::walks::WalkCase;
+use judge::words::Case;
 
 const HELP: &str = "\
 judge: answers test cases from the published code
@@ -70,11 +44,16 @@ judge: answers test cases from the published code
       4 MiB (the others), to a shell command on its standard input and
       compares its output with the judge's; some batches end inside a case or
       in a wrong one
-  judge compare files --run COMMAND --seed N --count N [--keep FILE]
+  judge compare files --run COMMAND|--serve COMMAND --seed N --count N
+              [--keep FILE]
       gives N files of house records to a shell command on its standard
       input, one a run and as many runs at once as there are cores, and
       compares its output with the judge's byte for byte; a file that differs
-      is kept in FILE, made small
+      is kept in FILE, made small. A command that serves is started once for
+      each core, in a folder with document 01's example, the file `sample`; for
+      each byte that it reads it answers the file `in` there by the file `out`
+      and then writes 4 bytes, how the process that did so ended
+      (tools/served.c)
   judge store lists|paths|builds|walks|cascades --seed N --count N
               --cases FILE --answers FILE
       writes N cases and the judge's answers to them; of builds, walks and
@@ -113,8 +92,8 @@ fn obey(arguments: &[String]) -> Result<ExitCode, String> {
     match words[..] {
         ["--help" | "-h" | "help"] => write(HELP.as_bytes())?,
         ["answer"] => write(Case::answers(&input()?).concat().as_bytes())?,
-        ["answer", "builds"] => write(builds::answer_stream(&input()?).as_bytes())?,
-        ["answer", "walks"] => write(walks::answer_stream(&input()?).as_bytes())?,
+        ["answer", "builds"] => write(judge::builds::answer_stream(&input()?).as_bytes())?,
+        ["answer", "walks"] => write(judge::walks::answer_stream(&input()?).as_bytes())?,
         ["paths"] => write(PathCase::answers(&input()?).concat().as_bytes())?,
         ["walk"] => write(walk::walk(&input()?).as_bytes())?,
         ["make", what, ..] => make(What::named(what)?, &words[2..])?,
@@ -149,27 +128,27 @@ fn write_file(path: &Path, bytes: &[u8]) -> Result<(), String> {
 }
 
 fn lists(seed: u64, count: usize) -> impl Iterator<Item = Case> {
-    use generate::{lists, stream};
+    use judge::generate::{lists, stream};
     stream(lists::fixed(), lists::random_case, seed, count)
 }
 
 fn paths(seed: u64, count: usize) -> impl Iterator<Item = PathCase> {
-    use generate::{paths, stream};
+    use judge::generate::{paths, stream};
     stream(paths::fixed(), paths::random_case, seed, count)
 }
 
 fn builds(seed: u64, count: usize) -> impl Iterator<Item = BuildCase> {
-    use generate::{build_edges, builds, stream};
+    use judge::generate::{build_edges, builds, stream};
     stream(build_edges::fixed(), builds::random_case, seed, count)
 }
 
 fn walks(seed: u64, count: usize) -> impl Iterator<Item = WalkCase> {
-    use generate::{stream, walk_edges, walks};
+    use judge::generate::{stream, walk_edges, walks};
     stream(walk_edges::fixed(), walks::random_case, seed, count)
 }
 
 fn cascades(seed: u64, count: usize) -> impl Iterator<Item = WalkCase> {
-    use generate::{cascade_edges, cascades, stream};
+    use judge::generate::{cascade_edges, cascades, stream};
     stream(cascade_edges::fixed(), cascades::random_case, seed, count)
 }
 
@@ -190,7 +169,7 @@ fn small<T: Clone>(
             }
         }
     };
-    generate::stream(fixed, random, seed, count)
+    judge::generate::stream(fixed, random, seed, count)
 }
 
 /// Most bytes of a case that is stored, and most words of memory it tells.
@@ -198,7 +177,7 @@ const MOST_STORED: usize = 4000;
 const MOST_TOLD: usize = 4000;
 
 fn small_builds(seed: u64, count: usize) -> impl Iterator<Item = BuildCase> {
-    use generate::{build_edges, builds};
+    use judge::generate::{build_edges, builds};
     let fits = |case: &BuildCase| case.bytes() <= MOST_STORED;
     let fixed = build_edges::fixed();
     small(fixed, builds::random_case, fits, seed, count)
@@ -209,13 +188,13 @@ fn is_small_walk(case: &WalkCase) -> bool {
 }
 
 fn small_walks(seed: u64, count: usize) -> impl Iterator<Item = WalkCase> {
-    use generate::{walk_edges, walks};
+    use judge::generate::{walk_edges, walks};
     let fixed = walk_edges::fixed();
     small(fixed, walks::random_case, is_small_walk, seed, count)
 }
 
 fn small_cascades(seed: u64, count: usize) -> impl Iterator<Item = WalkCase> {
-    use generate::{cascade_edges, cascades};
+    use judge::generate::{cascade_edges, cascades};
     let fixed = cascade_edges::fixed();
     small(fixed, cascades::random_case, is_small_walk, seed, count)
 }
@@ -248,7 +227,7 @@ impl Made {
 }
 
 fn files(seed: u64, count: usize) -> impl Iterator<Item = Vec<u8>> {
-    use generate::{file_edges, files, stream};
+    use judge::generate::{file_edges, files, stream};
     stream(file_edges::fixed(), files::random_file, seed, count)
 }
 
@@ -266,7 +245,7 @@ const MOST_FOR_FAULT: usize = 1200;
 /// Files that are stored: 01's example, one for each fault that a small file
 /// can have, and any small ones.
 fn small_files(seed: u64, count: usize) -> Vec<Vec<u8>> {
-    use generate::{file_edges, files};
+    use judge::generate::{file_edges, files};
     let fixed = file_edges::fixed();
     let mut stored = vec![fixed[0].clone()];
     let mut seen = BTreeSet::new();
@@ -378,9 +357,18 @@ fn compare(what: What, words: &[&str]) -> Result<ExitCode, String> {
 }
 
 fn compare_all_files(words: &[&str]) -> Result<ExitCode, String> {
-    let options = Options::read_or(words, &["--run", "--seed", "--count"], &["--keep"])?;
+    let options = Options::read_or(
+        words,
+        &["--seed", "--count"],
+        &["--run", "--serve", "--keep"],
+    )?;
     let (seed, count) = (options.seed()?, options.count()?);
-    let found = compare_files(options.text("--run")?, seed, count, files(seed, count))?;
+    let way = match (options.text("--run"), options.text("--serve")) {
+        (Ok(command), Err(_)) => Way::Each(command),
+        (Err(_), Ok(command)) => Way::Served(command),
+        _ => return Err("either `--run` or `--serve` is wanted".to_string()),
+    };
+    let found = compare_files(way, seed, count, files(seed, count))?;
     if let (Some(different), Ok(path)) = (&found, options.text("--keep")) {
         write_file(Path::new(path), &different.file)?;
     }

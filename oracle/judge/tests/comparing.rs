@@ -14,10 +14,12 @@ fn judge(words: &[&str]) -> Output {
 
 /// Compares with a command that begins with the judge.
 fn compare(what: &str, run: &str, count: &str) -> (Option<i32>, String) {
+    compare_by("--run", what, run, count)
+}
+
+fn compare_by(how: &str, what: &str, run: &str, count: &str) -> (Option<i32>, String) {
     let run = run.replace("JUDGE", &format!("'{JUDGE}'"));
-    let output = judge(&[
-        "compare", what, "--run", &run, "--seed", "3", "--count", count,
-    ]);
+    let output = judge(&["compare", what, how, &run, "--seed", "3", "--count", count]);
     let text = String::from_utf8(output.stdout).expect("the judge writes text");
     (output.status.code(), text)
 }
@@ -36,6 +38,21 @@ fn no_difference_from_itself() {
     }
     let told = "compared 100 files: no difference\n".to_string();
     assert_eq!(compare("files", "JUDGE walk", "100"), (Some(0), told));
+}
+
+#[test]
+fn command_that_serves_is_compared_too() {
+    let serve = |run: &str| {
+        let run = format!("while [ \"$(head -c 1)\" = . ]; do {run}; printf '\\0\\0\\0\\0'; done");
+        compare_by("--serve", "files", &run, "100")
+    };
+    let told = "compared 100 files: no difference\n".to_string();
+    assert_eq!(serve("JUDGE walk <in >out"), (Some(0), told));
+    let (status, told) = serve("JUDGE walk <in | sed 's/^refused 10/refused 1/' >out");
+    assert_eq!(status, Some(1));
+    assert!(told.contains("expected: refused 10 at 0\n"), "{told}");
+    // One that does not serve is no difference, but told.
+    assert_eq!(serve("exit 1"), (Some(2), String::new()));
 }
 
 #[test]

@@ -23,8 +23,8 @@ finish-requires c κs = search needs
 returns : tie.Need-returns Inv-loop μ-loop
 returns c = search needs
 
-answer-item-requires : tie.Need-answer-item-requires Inv-loop μ-loop
-answer-item-requires c κs = search needs
+item-requires : tie.Need-item-requires Inv-loop μ-loop
+item-requires c κs = search needs
 
 sub-turns : tie.Need-sub-turns Inv-loop μ-loop
 sub-turns c = search needs
@@ -48,7 +48,7 @@ main-spec =
     next-requires
     finish-requires
     returns
-    answer-item-requires
+    item-requires
     sub-turns
     loop-less
     loop-again

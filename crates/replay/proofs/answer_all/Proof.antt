@@ -7,10 +7,10 @@ use Rattle.replay.proofs.answer_all.Statement.{statement}
 use Rattle.replay.proofs.answer_all.Tie as tie
 
 abbrev Inv-loop : tie.InvT-loop
-Inv-loop input out₀ used₀ at₀ out used at = (at ≤ length input) × (length out ≡ length out₀)
+Inv-loop input n out₀ used₀ at₀ out used at = (at ≤ n) × (length out ≡ length out₀)
 
 abbrev μ-loop : tie.MeasureT-loop
-μ-loop input out₀ used₀ at₀ out used at = length input - at
+μ-loop input n out₀ used₀ at₀ out used at = n - at
 
 loop-holds : tie.Need-loop-holds Inv-loop μ-loop
 loop-holds c = search needs

@@ -109,13 +109,11 @@ impl Machine {
     }
 
     /// Whether the published code answers too.
-    #[cfg(test)]
     pub fn in_play(&self) -> bool {
         self.walked.is_some()
     }
 
     /// Whether the published cascade answers too.
-    #[cfg(test)]
     pub fn cascade_in_play(&self) -> bool {
         self.cascade(self.pieces[HEAD][image::RANKING]).is_some()
     }

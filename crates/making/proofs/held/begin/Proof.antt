@@ -1,4 +1,6 @@
 -- `making::held::begin` meets its contract. Assumes nothing.
+use mathlib.Core.Path.{refl, ap}
+use Rattle.house.specs.declared.Making.{Making}
 use Rattle.making.proofs.Taking.{begin-kind, begin-ranking, begin-taken}
 use borrow.Author.Needs.{needs}
 use Rattle.making.proofs.held.begin.Statement.{statement}
@@ -8,13 +10,13 @@ refused-requires : tie.Need-refused-requires
 refused-requires c κs = search needs
 
 returns : tie.Need-returns
-returns c = λ g b z. search (begin-kind, needs)
+returns c = (ap (λ (x : Making). x .at) (c .refused .ensures), λ g b z. search (begin-kind, needs))
 
 refused-requires-2 : tie.Need-refused-requires-2
 refused-requires-2 c κs = search needs
 
 returns-2 : tie.Need-returns-2
-returns-2 c = λ g b z. search (begin-ranking, needs)
+returns-2 c = (ap (λ (x : Making). x .at) (c .refused2 .ensures), λ g b z. search (begin-ranking, needs))
 
 slice-aggregate-copy-into : tie.Need-slice-aggregate-copy-into
 slice-aggregate-copy-into c = search needs
@@ -26,7 +28,7 @@ same-length : tie.Need-same-length
 same-length c = search needs
 
 returns-3 : tie.Need-returns-3
-returns-3 c = λ g b z. begin-taken _ _ g b z _ _ (search needs) (search needs) (search needs)
+returns-3 c = (refl, λ g b z. begin-taken _ _ g b z _ _ (search needs) (search needs) (search needs))
 
 pub begin-spec : {M : Type 1} → statement M
 begin-spec =

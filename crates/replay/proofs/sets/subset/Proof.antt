@@ -6,41 +6,11 @@ use borrow.Author.Needs.{needs}
 use Rattle.replay.proofs.sets.subset.Statement.{statement}
 use Rattle.replay.proofs.sets.subset.Tie as tie
 
-split-requires : tie.Need-split-requires
-split-requires c κs = search needs
-
-slice-aggregate-text : tie.Need-slice-aggregate-text
-slice-aggregate-text c = search needs
-
-text-requires : tie.Need-text-requires
-text-requires c κs = search needs
-
-same-length : tie.Need-same-length
-same-length c = search needs
-
-returns : tie.Need-returns
-returns c = search needs
-
-part-set-of-start : tie.Need-part-set-of-start
-part-set-of-start c = search needs
-
-part-set-of-end : tie.Need-part-set-of-end
-part-set-of-end c = search needs
+second-requires : tie.Need-second-requires
+second-requires c κs = search needs
 
 set-of-requires : tie.Need-set-of-requires
 set-of-requires c κs = search needs
-
-mul-set-of : tie.Need-mul-set-of
-mul-set-of c = search needs
-
-sub-set-of : tie.Need-sub-set-of
-sub-set-of c = search needs
-
-part-set-of-start-2 : tie.Need-part-set-of-start-2
-part-set-of-start-2 c = search needs
-
-part-set-of-end-2 : tie.Need-part-set-of-end-2
-part-set-of-end-2 c = search needs
 
 set-of-requires-2 : tie.Need-set-of-requires-2
 set-of-requires-2 c κs = search needs
@@ -60,45 +30,35 @@ slice-aggregate-is-subset-2 c = sym (length-take-le _ _ (omega arith))
 is-subset-requires : tie.Need-is-subset-requires
 is-subset-requires c κs = search needs
 
-slice-aggregate-text-2 : tie.Need-slice-aggregate-text-2
-slice-aggregate-text-2 c = search needs
+slice-aggregate-text : tie.Need-slice-aggregate-text
+slice-aggregate-text c = search needs
 
-text-requires-2 : tie.Need-text-requires-2
-text-requires-2 c κs = search needs
+text-requires : tie.Need-text-requires
+text-requires c κs = search needs
 
 verdict-requires : tie.Need-verdict-requires
 verdict-requires c κs = search needs
 
-same-length-2 : tie.Need-same-length-2
-same-length-2 c = search needs
+same-length : tie.Need-same-length
+same-length c = search needs
 
-returns-2 : tie.Need-returns-2
-returns-2 c = search needs
+returns : tie.Need-returns
+returns c = search needs
 
 pub subset-spec : {M : Type 1} → statement M
 subset-spec =
     tie.close
     (tie.spec
-    split-requires
-    slice-aggregate-text
-    text-requires
-    same-length
-    returns
-    part-set-of-start
-    part-set-of-end
+    second-requires
     set-of-requires
-    mul-set-of
-    sub-set-of
-    part-set-of-start-2
-    part-set-of-end-2
     set-of-requires-2
     array-share-prefix-needles
     slice-aggregate-is-subset
     array-share-prefix-haystack
     slice-aggregate-is-subset-2
     is-subset-requires
-    slice-aggregate-text-2
-    text-requires-2
+    slice-aggregate-text
+    text-requires
     verdict-requires
-    same-length-2
-    returns-2)
+    same-length
+    returns)
