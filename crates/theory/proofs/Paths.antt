@@ -70,8 +70,8 @@ module _ {Step Subject : Type 0} (ok : Step → Subject → Bool) where
   goes_descendant : (sel : Selector Step) (k : ℕ) (path : List Subject) (q : Part Step) (x : Subject) → q.comb ≡ descendant → T (ok q.step x) → Goes ok sel (take k path) → Goes ok (sel ++ q ∷ []) (path ++ x ∷ [])
   goes_descendant sel zero path q x e o g = goes_nil sel path q x e o g
   goes_descendant sel (suc k) [] q x e o g = goes_nil sel [] q x e o g
-  goes_descendant sel (suc k) (y ∷ path) q x e o (here a g) = here a (goes_descendant _ k path q x e o g)
-  goes_descendant sel (suc k) (y ∷ path) q x e o (skip d g) = skip d (goes_descendant _ k path q x e o g)
+  goes_descendant _ (suc k) (y ∷ path) q x e o (here {sel = sel} a g) = here a (goes_descendant sel k path q x e o g)
+  goes_descendant _ (suc k) (y ∷ path) q x e o (skip {p = p} {sel = sel} d g) = skip d (goes_descendant (p ∷ sel) k path q x e o g)
 
   goes_init : (sel : Selector Step) (path : List Subject) (q : Part Step) (x : Subject) → T (ok q.step x) → (c : Comb) → q.comb ≡ c → Upto c (Goes ok sel) path → Goes ok (sel ++ q ∷ []) (path ++ x ∷ [])
   goes_init sel path q x o child e u = goes_child q x o u

@@ -79,7 +79,7 @@ module _ {Step Subject : Type 0} (ok : Step → Subject → Bool) where
     empty = cons_nil p [];
   }
   to_places {p = p} o (here {p = q} {sel = sel} {x = y} {path = path} a g) =
-      let r : Places ok (q ∷ sel) (y ∷ path) = to_places a g in
+      let r : Places ok (q ∷ sel) (y ∷ path) = to_places {p = q} {x = y} {sel = sel} {path = path} a g in
       record {
         place = elim [ zero ↦ 0 | suc i ↦ suc (r.place i) ];
         first = refl;
@@ -89,7 +89,7 @@ module _ {Step Subject : Type 0} (ok : Step → Subject → Bool) where
         empty = cons_nil p (q ∷ sel);
       }
   to_places {p = p} {x = x} o (skip {p = q} {sel = sel} {x = y} {path = path} d g) =
-      let r : Places ok (p ∷ q ∷ sel) (x ∷ path) = to_places o g in
+      let r : Places ok (p ∷ q ∷ sel) (x ∷ path) = to_places {p = p} {x = x} {sel = q ∷ sel} {path = path} o g in
       record {
         place = elim [ zero ↦ 0 | suc i ↦ suc (r.place (suc i)) ];
         first = refl;
