@@ -17,14 +17,14 @@ use sheet::layout;
 use sheet::shape::step_place;
 
 // How many cursors and how many rules.
-#[derive(Drop)]
+#[derive(Clone, Copy)]
 pub struct Counts {
     pub cursors: usize,
     pub matched: usize,
 }
 
 // How many cursors of the parent and of the root are done, and what that made.
-#[derive(Drop)]
+#[derive(Clone, Copy)]
 struct Done {
     parent: usize,
     root: usize,
@@ -32,7 +32,7 @@ struct Done {
 }
 
 // A cursor, and how many of the parent's and of the root's are done with it.
-#[derive(Drop)]
+#[derive(Clone, Copy)]
 struct Taken {
     cursor: u32,
     parent: usize,

@@ -1,4 +1,6 @@
 // For measuring: the public calls under plain names, with numbers and slices only. Linked by the Rust program in bench/.
+#![tactic(auto)]
+
 ghost use Rattle.std.specs.Prelude.{◌≡◌, not, List, ℕ, drop};
 ghost use Rattle.typed.specs.Typed.{inputs_row, inputs_from};
 ghost use Rattle.sheet.specs.Shape.{sheet_shape};

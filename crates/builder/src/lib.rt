@@ -1,4 +1,6 @@
 // Pushing styles, rules and cascades into a lent sheet: `StyleCascadeBuilder` of matcher.rs.
+#![tactic(auto)]
+
 ghost use Rattle.std.specs.Prelude.{[], ◌∷◌};
 ghost use Rattle.sheet.specs.Laying.{emptied};
 ghost use Rattle.given.specs.Given.{given};
@@ -11,7 +13,7 @@ use sheet::layout;
 
 pub mod held;
 
-#[derive(Drop)]
+#[derive(Clone, Copy)]
 pub enum Pushing {
     Pushed,
     Refused(Refusal),

@@ -1,4 +1,6 @@
 // A table built of a sheet: the root state alone. `build_matcher` and `Matcher::root_state` of matcher.rs.
+#![tactic(auto)]
+
 ghost use Rattle.std.specs.Prelude.{List, [], ◌∷◌, ◌≡◌, ℕ, ◌≤◌, length};
 ghost use Rattle.std.proofs.lemmas.List.Edits.{sets};
 ghost use Rattle.table.specs.Tables.{table};
@@ -14,7 +16,7 @@ use table::layout;
 
 pub mod held;
 
-#[derive(Drop)]
+#[derive(Clone, Copy)]
 pub enum Building {
     Built,
     Refused(Refusal),

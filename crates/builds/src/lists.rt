@@ -5,7 +5,7 @@ use lent::held::part;
 use lent::words::{wide, word};
 
 // Where the first of the lengths stands, and where the first of the lists begins.
-#[derive(Drop)]
+#[derive(Clone, Copy)]
 pub(crate) struct Lists {
     pub(crate) lengths: usize,
     pub(crate) begin: usize,

@@ -1,5 +1,7 @@
 // Answers cases of sheets from standard input, in the words of the judge (oracle/), so that the two can be compared.
 // The input is items of little-endian words: what is to be done, how many words follow, and those words. Two sheets stand ready.
+#![tactic(auto)]
+
 use items::MOST;
 use items::held::{NONE, SIZE, finish, next};
 

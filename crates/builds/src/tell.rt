@@ -58,7 +58,7 @@ fn combinator(out: &mut [u8], at: usize, answer: CombinatorAnswer) -> usize {
     }
 }
 
-#[derive(Drop)]
+#[derive(Clone, Copy)]
 enum Part {
     StyleEntry,
     RuleEntry,

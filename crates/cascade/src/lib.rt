@@ -1,4 +1,6 @@
 // The cascade: changes and channels between a table's states. The changes of `StyleCascade` of matcher.rs.
+#![tactic(auto)]
+
 use channels::ChannelSet;
 use lent::Refusal;
 
@@ -6,7 +8,7 @@ pub mod change;
 pub mod held;
 pub mod resources;
 
-#[derive(Drop)]
+#[derive(Clone, Copy)]
 pub enum Channels {
     Set(ChannelSet),
     Refused(Refusal),

@@ -1,4 +1,6 @@
 // Change sets: property ids in lent half words, ascending and each once. `StyleChangeSet` of matcher.rs.
+#![tactic(auto)]
+
 ghost use Rattle.std.specs.Prelude.{◌≡◌, [], ◌∷◌, length, eqb};
 ghost use Rattle.lent.specs.Refusals.{answered, one_if};
 ghost use Rattle.changeset.specs.Sets.{changing_told, emptiness_told, set_of, union_of, set_verdict, union_verdict, count_verdict, Lists};
@@ -8,13 +10,13 @@ use lent::Refusal;
 pub mod held;
 
 // How many properties are listed.
-#[derive(Drop)]
+#[derive(Clone, Copy)]
 pub enum Changing {
     Listed(usize),
     Refused(Refusal),
 }
 
-#[derive(Drop)]
+#[derive(Clone, Copy)]
 pub enum Emptiness {
     Yes,
     No,

@@ -1,4 +1,6 @@
 // Channels that changes of properties call for: `ChannelSet`, and `StyleChangeSet::affected_channels` of matcher.rs.
+#![tactic(auto)]
+
 ghost use Rattle.std.specs.Prelude.{◌≡◌, length, eqb};
 ghost use Rattle.bits.specs.Bits.{bit, bits_in};
 ghost use Rattle.channels.specs.Channels.{channels_of, lowest_told, lowest_of};
@@ -6,10 +8,10 @@ ghost use Rattle.channels.specs.Channels.{channels_of, lowest_told, lowest_of};
 use lent::words::word;
 
 // A channel for each bit.
-#[derive(Drop)]
+#[derive(Clone, Copy)]
 pub struct ChannelSet(pub u32);
 
-#[derive(Drop)]
+#[derive(Clone, Copy)]
 pub enum Lowest {
     Channel(u32),
     Nothing,

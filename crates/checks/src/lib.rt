@@ -1,2 +1,4 @@
 // When a selector or a path is refused.
+#![tactic(auto)]
+
 pub mod held;

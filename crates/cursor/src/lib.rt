@@ -1,5 +1,7 @@
 // `RuleCursor` of matcher.rs: a place in a list of matched rules, which yields their numbers one after the other. The borrow checker covers no
 // function over a struct that holds a slice, so each is thin, and proved by hand; the work is in `rule_at` and `index_after`.
+#![tactic(auto)]
+
 ghost use Rattle.std.specs.Prelude.{◌≡◌};
 ghost use Rattle.cursor.specs.Yielding.{next_told, next_of, index_after};
 

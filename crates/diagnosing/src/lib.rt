@@ -1,4 +1,6 @@
 // Why a selector does not fit a path: `diagnose_path` of selector.rs.
+#![tactic(auto)]
+
 ghost use Rattle.std.specs.Prelude.{◌≡◌, false, ◌<◌, ◌≤◌, ◌+◌, ◌-◌};
 ghost use Rattle.theory.specs.Lists.{spread};
 ghost use Rattle.selector.specs.Checks.{subjects_off};

@@ -1,8 +1,10 @@
 // What the pushes are given, when they are refused and what they leave: definitions; and the writing of single rows.
+#![tactic(auto)]
+
 pub mod held;
 
 // The counts of a sheet.
-#[derive(Drop)]
+#[derive(Clone, Copy)]
 pub struct Counts {
     pub rules: u32,
     pub steps: u32,

@@ -1,4 +1,6 @@
 // Ascending lists of numbers, `IdSet` in the Rust: here its `is_sorted_unique` and the order of slices, on lists that anyone may give.
+#![tactic(auto)]
+
 ghost use Rattle.std.specs.Prelude.{◌≡◌};
 ghost use Rattle.theory.specs.Lists.{ascends, at_most, compare};
 

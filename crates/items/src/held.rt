@@ -36,7 +36,7 @@ fn end_within(input: &[u8], have: usize, at: usize) -> usize
 }
 
 // Where an item begins and ends, and how many bytes are at hand.
-#[derive(Drop)]
+#[derive(Clone, Copy)]
 struct Stretch {
     from: usize,
     to: usize,
@@ -71,7 +71,7 @@ pub const SIZE: usize = 262144;
 
 // An item: where it begins, its first word, how many words follow, where the next begins, and how many bytes are at hand. What begins where the next
 // does is no item, and the input is at its end.
-#[derive(Drop)]
+#[derive(Clone, Copy)]
 pub struct Item {
     pub from: usize,
     pub op: u32,

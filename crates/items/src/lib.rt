@@ -1,5 +1,7 @@
 // Items of input, for the programs that compare with the published Rust: little-endian words, which say what is to be done, how many words follow,
 // and those words.
+#![tactic(auto)]
+
 ghost use Rattle.std.specs.Prelude.{◌≡◌, ◌≤◌, min, length, get_or, drop};
 ghost use Rattle.lines.specs.Text.{Read};
 ghost use Rattle.items.specs.Items.{too_long};

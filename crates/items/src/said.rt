@@ -8,7 +8,7 @@ use lent::Refusal;
 use lent::held::part;
 
 // The first `count` of four.
-#[derive(Drop)]
+#[derive(Clone, Copy)]
 pub struct Said {
     pub count: usize,
     pub list: [u32; 4],

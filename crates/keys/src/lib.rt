@@ -1,4 +1,6 @@
 // The key of a source, and how two keys compare: `CascadeEntryKey` of matcher.rs.
+#![tactic(auto)]
+
 ghost use Rattle.std.specs.Prelude.{◌≡◌};
 ghost use Rattle.theory.specs.Cascade.{key_numbers, compare_keys};
 ghost use Rattle.keys.specs.Keys.{key_from};
@@ -8,7 +10,7 @@ use selector::Specificity;
 
 pub mod held;
 
-#[derive(Drop)]
+#[derive(Clone, Copy)]
 pub struct CascadeEntryKey {
     pub origin: u32,
     pub specificity: Specificity,

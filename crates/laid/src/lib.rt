@@ -1,1 +1,2 @@
 // No code: theorems of what `sheet` defines stand in proofs/.
+#![tactic(auto)]

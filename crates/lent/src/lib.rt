@@ -1,4 +1,6 @@
 // The numbers given back on refusal, words lent in a slice, and lists end to end over a pool.
+#![tactic(auto)]
+
 ghost use Rattle.std.specs.Prelude.{◌≡◌};
 ghost use Rattle.lent.specs.Refusals.{number_of, refusal_of};
 
@@ -7,7 +9,7 @@ pub mod lists;
 pub mod words;
 
 // 01, "Numbers given back on refusal": a case for each number, in the table's order.
-#[derive(Drop)]
+#[derive(Clone, Copy)]
 pub enum Refusal {
     // 1: ids or property ids that are not strictly ascending
     NotAscending,

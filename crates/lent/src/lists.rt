@@ -5,7 +5,7 @@ ghost use Rattle.lent.specs.Pool.{address_of, ends_in, start_of};
 use crate::words::{wide, word};
 
 // Where a column stands: its first word, and how many words lie from one row to the next.
-#[derive(Drop)]
+#[derive(Clone, Copy)]
 pub struct Column {
     pub base: u32,
     pub stride: u32,

@@ -1,4 +1,6 @@
 // Text laid into a lent buffer, and little-endian words read out of bytes.
+#![tactic(auto)]
+
 ghost use Rattle.std.specs.Prelude.{◌≡◌, ◌<◌, get_or};
 ghost use Rattle.lines.specs.Text.{Laid, LaidNumber, word_at, Read};
 

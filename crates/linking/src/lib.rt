@@ -1,2 +1,4 @@
 // Keeping a transition, in its parent's chain.
+#![tactic(auto)]
+
 pub mod held;

@@ -13,7 +13,7 @@ use making::held::feed_sheet;
 use screen::held::{fill, shift};
 
 // How many bytes are at hand, how far the sheet has come, and whether its part of the input is over.
-#[derive(Drop)]
+#[derive(Clone, Copy)]
 pub struct Reading {
     pub have: usize,
     pub making: Making,

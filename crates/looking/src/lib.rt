@@ -1,11 +1,13 @@
 // The look-ups of a table's states: the winner of a property, and what it says. The look-ups of `StyleCascade` of matcher.rs.
+#![tactic(auto)]
+
 use lent::Refusal;
 
 pub mod held;
 pub mod look;
 
 // The source that wins: its number among the direct styles or the rules, and its source index. `StyleSourceRef` of matcher.rs.
-#[derive(Drop)]
+#[derive(Clone, Copy)]
 pub enum Winning {
     Nobody,
     Direct(u32, u32),

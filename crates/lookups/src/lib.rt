@@ -1,4 +1,6 @@
 // The look-ups of a style's entries in lent lists: those of style.rs.
+#![tactic(auto)]
+
 ghost use Rattle.std.specs.Prelude.{◌≡◌, [], ◌∷◌};
 ghost use Rattle.style.specs.Looking.{containing_told, position_told, kind_told, plain_told, resource_told, length_told, kind_of, plain_of, resource_of, style_answer, found, containing_of, position_of, Ids};
 

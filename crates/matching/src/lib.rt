@@ -1,4 +1,6 @@
 // Whether a selector fits a path: `matches_path` of selector.rs.
+#![tactic(auto)]
+
 ghost use Rattle.std.specs.Prelude.{◌≡◌, false, ◌<◌, ◌≤◌, ◌+◌, ◌-◌};
 ghost use Rattle.selector.specs.Checks.{subjects_off};
 ghost use Rattle.selector.specs.Matching.{any_from, fits_from, hit_at, far_at, matching_told, matching_of};

@@ -1,2 +1,4 @@
 // What an accepted push of a cascade writes.
+#![tactic(auto)]
+
 pub mod held;

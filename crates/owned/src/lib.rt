@@ -1,4 +1,6 @@
 // Subjects whose ids are sorted and made unique, by value.
+#![tactic(auto)]
+
 ghost use Rattle.std.specs.Prelude.{◌≡◌, ◌≤◌, get_or};
 ghost use Rattle.theory.specs.Lists.{sort};
 ghost use Rattle.selector.specs.Rows.{words_from};
@@ -11,14 +13,14 @@ use selector::held::ids;
 use typed::{ClassId, PartChoice, PseudoClassId, SelectorInputs, TypeChoice};
 
 // Whether a call was accepted.
-#[derive(Drop)]
+#[derive(Clone, Copy)]
 pub enum Verdict {
     Accepted,
     Refused(Refusal),
 }
 
 // A subject whose ids were sorted and made unique; the empty one where they were refused.
-#[derive(Drop)]
+#[derive(Clone, Copy)]
 pub struct SelectorInputsOwned {
     pub verdict: Verdict,
     pub inputs: SelectorInputs,

@@ -1,6 +1,8 @@
 // Answers cases about selectors and paths from standard input, in the words of the judge (oracle/), so that the two can be compared.
 // A case is three sections of little-endian words, and each section a count, a number, and as many rows as the number says:
 // the steps' rows, the combinators' words, the subjects' rows. A count is what is given, a number is what is lent.
+#![tactic(auto)]
+
 ghost use Rattle.std.specs.Prelude.{◌≤◌, length};
 
 use screen::held::refill;

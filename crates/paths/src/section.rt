@@ -55,7 +55,7 @@ pub(crate) fn is_too_long(input: &[u8]) -> bool {
 }
 
 // Where a case begins, where each of its sections ends, and how many bytes are at hand.
-#[derive(Drop)]
+#[derive(Clone, Copy)]
 pub(crate) struct Case {
     pub(crate) from: usize,
     pub(crate) steps: usize,

@@ -7,3 +7,4 @@
 // For demand 3 besides, with more said of each: the first half, which rules a state lists, that a fresh table lists the same, and what calls keep: Listed, of
 // tables and states; Calls, from the calls' contracts to that; Cursor, what a RuleCursor yields. The second half, who wins and what changes: Winning and Changing; CascadeCalls.
 // WalkExample, WalkWinners, WalkRun and WalkSheet are 01's example, whose definitions are in specs/Walk. Ladders, Along, Places, Tails, Sums and WalkSteps are proofs for these.
+#![tactic(auto)]

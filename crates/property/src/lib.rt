@@ -1,9 +1,11 @@
 // The property number: id.rs of understory_property.
+#![tactic(auto)]
+
 ghost use Rattle.std.specs.Prelude.{◌≡◌};
 ghost use Rattle.property.specs.Order.{order_of};
 
 // A runtime property identifier, as in the Rust a handle over u16. 01: "property ids u16".
-#[derive(Drop)]
+#[derive(Clone, Copy)]
 pub struct PropertyId(pub u16);
 
 impl PropertyId {

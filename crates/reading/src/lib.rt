@@ -1,16 +1,18 @@
 // What is read out of a lent sheet. `StyleCascade` and `MatchRule` of matcher.rs.
+#![tactic(auto)]
+
 use lent::Refusal;
 use steps::SelectorStep;
 
 pub mod read;
 
-#[derive(Drop)]
+#[derive(Clone, Copy)]
 pub enum Counting {
     Count(u32),
     Refused(Refusal),
 }
 
-#[derive(Drop)]
+#[derive(Clone, Copy)]
 pub enum Emptiness {
     Yes,
     No,
@@ -18,7 +20,7 @@ pub enum Emptiness {
 }
 
 // A rule's own numbers; `rule_step`, `rule_combinator` and `rule_entry` give the rest.
-#[derive(Drop)]
+#[derive(Clone, Copy)]
 pub struct MatchRule {
     pub origin: u32,
     pub source_index: u32,
@@ -27,13 +29,13 @@ pub struct MatchRule {
     pub entry_count: u32,
 }
 
-#[derive(Drop)]
+#[derive(Clone, Copy)]
 pub enum RuleAnswer {
     Rule(MatchRule),
     Refused(Refusal),
 }
 
-#[derive(Drop)]
+#[derive(Clone, Copy)]
 pub struct DirectStyle {
     pub origin: u32,
     pub source_index: u32,
@@ -41,14 +43,14 @@ pub struct DirectStyle {
 }
 
 // 01 has no refusal for the number of a direct style: one that is not there is absent.
-#[derive(Drop)]
+#[derive(Clone, Copy)]
 pub enum StyleAnswer {
     Style(DirectStyle),
     Absent,
     Refused(Refusal),
 }
 
-#[derive(Drop)]
+#[derive(Clone, Copy)]
 pub enum EntryAnswer {
     Entry {
         property: u16,
@@ -59,7 +61,7 @@ pub enum EntryAnswer {
     Refused(Refusal),
 }
 
-#[derive(Drop)]
+#[derive(Clone, Copy)]
 pub enum CombinatorAnswer {
     Child,
     Descendant,
@@ -67,7 +69,7 @@ pub enum CombinatorAnswer {
     Refused(Refusal),
 }
 
-#[derive(Drop)]
+#[derive(Clone, Copy)]
 pub enum StepVerdict {
     Found,
     Absent,
@@ -75,7 +77,7 @@ pub enum StepVerdict {
 }
 
 // The step beside its verdict; the step that asks for nothing where there is none.
-#[derive(Drop)]
+#[derive(Clone, Copy)]
 pub struct StepAnswer {
     pub verdict: StepVerdict,
     pub step: SelectorStep,

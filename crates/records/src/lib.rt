@@ -1,8 +1,10 @@
 // House records read out of bytes.
+#![tactic(auto)]
+
 pub mod held;
 
 // A record's kind, and the numbers of its body; 0 for one that it has not.
-#[derive(Drop)]
+#[derive(Clone, Copy)]
 pub struct Record {
     pub kind: u32,
     pub first: u32,

@@ -1,5 +1,7 @@
 // Answers a batch of cases from standard input, a line for each, in the words of the judge (oracle/), so that the two can be compared.
 // A case is two little-endian words, its kind and how many words follow, and those words.
+#![tactic(auto)]
+
 ghost use Rattle.std.specs.Prelude.{◌≤◌, length};
 
 use libc::{STDIN_FILENO, STDOUT_FILENO};

@@ -1,15 +1,17 @@
 // Records 9 to 12 answered, as lines in a lent buffer.
+#![tactic(auto)]
+
 pub mod held;
 
 // Where the next line goes, and whether the program ends.
-#[derive(Drop)]
+#[derive(Clone, Copy)]
 pub struct Replied {
     pub used: usize,
     pub ends: bool,
 }
 
 // Why a record is refused, or 0; and the child of an enter that is not.
-#[derive(Drop)]
+#[derive(Clone, Copy)]
 struct Entered {
     fault: u32,
     child: u32,

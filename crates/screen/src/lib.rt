@@ -1,4 +1,6 @@
 // Lines laid into a buffer, and written out; input read in pieces.
+#![tactic(auto)]
+
 ghost use Rattle.std.specs.Prelude.{◌≡◌, cond, leb};
 ghost use Rattle.screen.specs.Labelled.{Labelled};
 ghost use Rattle.screen.specs.Ends.{at_front, Ends};

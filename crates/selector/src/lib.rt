@@ -1,10 +1,12 @@
 // Subjects and selectors in lent rows, and what is answered of them: selector.rs.
+#![tactic(auto)]
+
 use lent::Refusal;
 
 pub mod held;
 
 // Whether a selector fits a path, or a step a subject.
-#[derive(Drop)]
+#[derive(Clone, Copy)]
 pub enum Matching {
     Yes,
     No,
@@ -12,7 +14,7 @@ pub enum Matching {
 }
 
 // `SelectorMismatch`, with a fit and a refusal beside it.
-#[derive(Drop)]
+#[derive(Clone, Copy)]
 pub enum Diagnosis {
     Fits,
     EmptySelectorWithNonEmptyPath,
@@ -36,10 +38,10 @@ pub enum Diagnosis {
 }
 
 // Pseudos, classes, parts, types in ranking 0; in ranking 1 Level 3's two counts, then zeros. Compared in that order.
-#[derive(Drop)]
+#[derive(Clone, Copy)]
 pub struct Specificity(pub u32, pub u32, pub u32, pub u32);
 
-#[derive(Drop)]
+#[derive(Clone, Copy)]
 pub enum Weighing {
     Weighs(Specificity),
     Refused(Refusal),

@@ -1,4 +1,6 @@
 // Steps by value, with typed numbers: the rows that they are written to and read from, whether a subject matches a step, and a step's weight.
+#![tactic(auto)]
+
 ghost use Rattle.std.specs.Prelude.{◌≡◌, ℕ, drop, get_or};
 ghost use Rattle.theory.specs.Lists.{spread};
 ghost use Rattle.selector.specs.Matching.{matching_told};
@@ -25,7 +27,7 @@ fn step_words(words: &[u32], at: usize) -> [u32; 22]
 }
 
 // A step of a selector. What it requires are the sets of the ids given, the first of each array; a count over 8 is refused where the step is used.
-#[derive(Drop)]
+#[derive(Clone, Copy)]
 pub struct SelectorStep {
     pub type_tag: TypeChoice,
     pub part_tag: PartChoice,

@@ -1,9 +1,11 @@
 // A style's entries in lent lists: what its look-ups answer, its checks, and what a look-up is made of.
+#![tactic(auto)]
+
 use lent::Refusal;
 
 pub mod held;
 
-#[derive(Drop)]
+#[derive(Clone, Copy)]
 pub enum Containing {
     Yes,
     No,
@@ -11,14 +13,14 @@ pub enum Containing {
 }
 
 // Where a property's entry stands.
-#[derive(Drop)]
+#[derive(Clone, Copy)]
 pub enum Place {
     At(u32),
     Absent,
     Refused(Refusal),
 }
 
-#[derive(Drop)]
+#[derive(Clone, Copy)]
 pub enum StyleValueKind {
     Value(u32),
     Resource(u32),
@@ -30,7 +32,7 @@ pub enum StyleValueKind {
 }
 
 // Expressions are nothing here.
-#[derive(Drop)]
+#[derive(Clone, Copy)]
 pub enum StyleValueRef {
     Value(u32),
     Resource(u32),
@@ -38,14 +40,14 @@ pub enum StyleValueRef {
     Refused(Refusal),
 }
 
-#[derive(Drop)]
+#[derive(Clone, Copy)]
 pub enum ResourceKey {
     Key(u32),
     Nothing,
     Refused(Refusal),
 }
 
-#[derive(Drop)]
+#[derive(Clone, Copy)]
 pub enum Length {
     Entries(u32),
     Refused(Refusal),

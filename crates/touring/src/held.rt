@@ -14,7 +14,7 @@ use walking::held::feed_walk;
 use wording::held::refused;
 
 // How many bytes are at hand, the offset of the next record, and whether the walk is over.
-#[derive(Drop)]
+#[derive(Clone, Copy)]
 struct Walking {
     have: usize,
     offset: u64,

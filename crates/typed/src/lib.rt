@@ -1,4 +1,6 @@
 // Subjects by value, with typed numbers, and the rows that they are written to and read from.
+#![tactic(auto)]
+
 ghost use Rattle.std.specs.Prelude.{◌≡◌, ℕ, drop, get_or};
 ghost use Rattle.theory.specs.Lists.{spread};
 ghost use Rattle.selector.specs.Rows.{tag_of, tag_number};
@@ -7,27 +9,27 @@ ghost use Rattle.typed.specs.Typed.{type_of, part_of, class_number, pseudo_numbe
 
 use lent::words::copy_into;
 
-#[derive(Drop)]
+#[derive(Clone, Copy)]
 pub struct TypeTag(pub u32);
 
-#[derive(Drop)]
+#[derive(Clone, Copy)]
 pub struct PartTag(pub u32);
 
-#[derive(Drop)]
+#[derive(Clone, Copy)]
 pub struct ClassId(pub u32);
 
-#[derive(Drop)]
+#[derive(Clone, Copy)]
 pub struct PseudoClassId(pub u32);
 
 // A type tag, or none.
-#[derive(Drop)]
+#[derive(Clone, Copy)]
 pub enum TypeChoice {
     Unset,
     Set(TypeTag),
 }
 
 // A part tag, or none.
-#[derive(Drop)]
+#[derive(Clone, Copy)]
 pub enum PartChoice {
     Unset,
     Set(PartTag),
@@ -103,7 +105,7 @@ fn subject_words(words: &[u32], at: usize) -> [u32; 38]
 }
 
 // A subject. Its ids are the first of each array, as many as the count says.
-#[derive(Drop)]
+#[derive(Clone, Copy)]
 pub struct SelectorInputs {
     pub type_tag: TypeChoice,
     pub part_tag: PartChoice,

@@ -1,4 +1,6 @@
 // Reads house records from standard input, and prints what 01 says: child states and their rules, changes, winners, refusals.
+#![tactic(auto)]
+
 ghost use Rattle.std.specs.Prelude.{◌≡◌, true, ◌≤◌, length};
 ghost use Rattle.sheet.specs.Shape.{sheet_shape};
 

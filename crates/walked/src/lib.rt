@@ -1,1 +1,2 @@
 // What `walk` prints: theorems, no code.
+#![tactic(auto)]

@@ -1,2 +1,4 @@
 // The weight of a sheet's rule.
+#![tactic(auto)]
+
 pub mod held;

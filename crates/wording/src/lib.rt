@@ -1,2 +1,4 @@
 // The lines of answers, laid into a lent buffer.
+#![tactic(auto)]
+
 pub mod held;
