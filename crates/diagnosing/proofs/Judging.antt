@@ -5,13 +5,10 @@ use mathlib.Core.List.{List, [], ◌∷◌}
 use Prim.Native.Nat.{ℕ, zero, suc, ◌+◌, ◌-◌, ◌≤◌, ◌<◌}
 use native.Mathlib.Numerals.{add-one}
 use borrow.Author.Tests.{lt-ltb, le-ltb}
-use denote.Enum.Declared.{tag_of}
-use types.Run.{OneOf, miss}
 use Rattle.theory.specs.Lists.{spread}
 use Rattle.selector.specs.declared.Diagnosis.{Diagnosis}
 use Rattle.selector.specs.declared.Diagnosis.TheVariants.{Fits, EmptySelectorWithNonEmptyPath, MissingSubject, StepMismatch, TrailingSubjects, MissingDescendant, Refused}
 use Rattle.selector.specs.Diagnosing.{judge, is_fit, is_mismatch, some_fit, other_errors, last_or, tried}
-use Rattle.selector.specs.contracts.Diagnosis.{the_type}
 use Rattle.matching.proofs.Ways.{none_left, one_left, missed, matched}
 
 module _ (hit : ℕ → ℕ → Bool) (m k i : ℕ) where
@@ -61,14 +58,14 @@ tried_one last (MissingDescendant k i) l = refl
 tried_one last (Refused r) l = refl
 
 -- an error that counts takes the place of the last
-tried_counts : (last d : Diagnosis) (l : List Diagnosis) → OneOf (1 ∷ 2 ∷ 4 ∷ 5 ∷ 6 ∷ []) (tag_of the_type d) → tried last (d ∷ l) ≡ tried d l
-tried_counts last Fits l e = absurd (miss (1 ∷ 2 ∷ 4 ∷ 5 ∷ 6 ∷ []) 0 tt e)
-tried_counts last EmptySelectorWithNonEmptyPath l e = tried_one _ _ _
-tried_counts last (MissingSubject k i) l e = tried_one _ _ _
-tried_counts last (StepMismatch k i) l e = absurd (miss (1 ∷ 2 ∷ 4 ∷ 5 ∷ 6 ∷ []) 3 tt e)
-tried_counts last (TrailingSubjects n i) l e = tried_one _ _ _
-tried_counts last (MissingDescendant k i) l e = tried_one _ _ _
-tried_counts last (Refused r) l e = tried_one _ _ _
+tried_counts : (last d : Diagnosis) (l : List Diagnosis) → (d ≡ Fits → ⊥) → ((k i : ℕ) → d ≡ StepMismatch k i → ⊥) → tried last (d ∷ l) ≡ tried d l
+tried_counts last Fits l e g = absurd (e refl)
+tried_counts last EmptySelectorWithNonEmptyPath l e g = tried_one _ _ _
+tried_counts last (MissingSubject k i) l e g = tried_one _ _ _
+tried_counts last (StepMismatch k i) l e g = absurd (g k i refl)
+tried_counts last (TrailingSubjects n i) l e g = tried_one _ _ _
+tried_counts last (MissingDescendant k i) l e g = tried_one _ _ _
+tried_counts last (Refused r) l e g = tried_one _ _ _
 
 module _ (f : ℕ → Diagnosis) (m from : ℕ) (last : Diagnosis) where
   pub try_none : m ≤ from → last ≡ tried last (spread f from (m - from))
@@ -85,7 +82,7 @@ module _ (f : ℕ → Diagnosis) (m from : ℕ) (last : Diagnosis) where
     pub try_dropped : (k i : ℕ) → d ≡ StepMismatch k i → (r : Diagnosis) → r ≡ tried last (spread f (from + 1) (m - (from + 1))) → r ≡ tried last (spread f from (m - from))
     try_dropped k i e r g = rw (one_more_lem, tried_one, e) g
 
-    pub try_kept : OneOf (1 ∷ 2 ∷ 4 ∷ 5 ∷ 6 ∷ []) (tag_of the_type d) → (r : Diagnosis) → r ≡ tried d (spread f (from + 1) (m - (from + 1))) → r ≡ tried last (spread f from (m - from))
-    try_kept e r g = g ∙ sym (ap (tried last) one_more_lem ∙ tried_counts last d _ e)
+    pub try_kept : (d ≡ Fits → ⊥) → ((x x' : ℕ) → d ≡ StepMismatch x x' → ⊥) → (r : Diagnosis) → r ≡ tried d (spread f (from + 1) (m - (from + 1))) → r ≡ tried last (spread f from (m - from))
+    try_kept e n r g = g ∙ sym (ap (tried last) one_more_lem ∙ tried_counts last d _ e n)
 
 pub ruleset judging = (judge_missing, judge_mismatch, judge_trailing, judge_fits, judge_child, judge_descendant, try_none, try_fits, try_dropped, try_kept)

@@ -44,4 +44,4 @@ try_later-returns-in-StepMismatch t c = search (judging, rules)
 
 -- src/lib.rt:64:1
 pub try_later-returns-in_default : goal.try_later-returns-in_default
-try_later-returns-in_default t c = ?
+try_later-returns-in_default t c = search (judging, rules)

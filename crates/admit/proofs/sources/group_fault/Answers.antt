@@ -1,0 +1,20 @@
+use borrow.Author.Rules.{rules}
+use Rattle.admit.proofs.Ladders.{group_origin, group_over, group_rule, group_index, group_few}
+use Rattle.admit.proofs.sources.group_fault.Goals as goal
+
+pub returns-then-origin-gt7 : goal.returns-then-origin-gt7
+returns-then-origin-gt7 c = search (group_origin, rules)
+
+pub returns-then-rules_over : goal.returns-then-rules_over
+returns-then-rules_over c = search (group_over, rules)
+
+pub rules_verdict-each-requires : goal.rules_verdict-each-requires
+rules_verdict-each-requires c =
+    let d = c in let w = d in let p = w in let o = p in
+    group_few _ o.requires _ _ _ o.rules_over.ensures p.if-rules_over.false _ _ _ d.wide.ensures w.word.ensures c.all_entries.ensures
+
+pub returns-then-each-ne0 : goal.returns-then-each-ne0
+returns-then-each-ne0 c = search (group_rule, rules)
+
+pub returns : goal.returns
+returns c = search (group_index, rules)

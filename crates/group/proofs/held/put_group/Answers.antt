@@ -1,0 +1,11 @@
+use Rattle.group.proofs.Writing.{group_asks, lists_long, counts_ask, group_put}
+use Rattle.group.proofs.held.put_group.Goals as goal
+
+pub put_parts-requires : goal.put_parts-requires
+put_parts-requires c = record { within = group_asks _ _ _ _ _ _ _ _ _ c.requires _ c.counts-c.ensures; n_in_bounds = lists_long _ _ _ _ _ _ _ _ _ c.requires _ c.counts-c.ensures }
+
+pub group_counts-requires : goal.group_counts-requires
+group_counts-requires c = counts_ask _ _ _ _ _ _ _ _ _ c.requires _ c.counts-c.ensures
+
+pub returns : goal.returns
+returns c = group_put _ _ _ _ _ _ _ _ _ c.requires _ c.counts-c.ensures _ _ _ c.put_parts.ensures c.group_counts.ensures c.put_counts.ensures

@@ -1,0 +1,47 @@
+use borrow.Author.Rules.{rules}
+use Rattle.given.specs.Pushing.{cascade_verdict}
+use Rattle.joining.proofs.Refusing.{refusals}
+use Rattle.joining.proofs.cascades.cascade_verdict.Reads as reads
+use Rattle.joining.proofs.cascades.cascade_verdict.Lts as lts
+use Rattle.joining.proofs.cascades.indexes_over.Reads as indexes-over-reads
+use Rattle.joining.proofs.cascades.sums_over.Reads as sums-over-reads
+use Rattle.sheet.proofs.shape.is_sheet.Reads as is-sheet-reads
+use Rattle.joining.proofs.cascades.cascade_verdict.Goals as goal
+
+-- src/cascades.rt:99:9
+
+-- src/cascades.rt:100:9
+
+-- src/cascades.rt:102:9
+
+-- src/cascades.rt:103:9
+
+-- src/cascades.rt:105:8
+
+-- src/cascades.rt:106:9
+
+-- src/cascades.rt:108:8
+
+-- src/cascades.rt:109:9
+
+-- src/cascades.rt:96:1
+
+pub returns-then-not-is_sheet : goal.returns-then-not-is_sheet
+unfolding cascade_verdict
+returns-then-not-is_sheet c = search (refusals, rules) depth 12
+
+pub returns-then-not-is_sheet-2 : goal.returns-then-not-is_sheet-2
+unfolding cascade_verdict
+returns-then-not-is_sheet-2 c = search (refusals, rules) depth 12
+
+pub returns-then-sums_over : goal.returns-then-sums_over
+unfolding cascade_verdict
+returns-then-sums_over c = search (refusals, rules) depth 12
+
+pub returns-then-indexes_over : goal.returns-then-indexes_over
+unfolding cascade_verdict
+returns-then-indexes_over c = search (refusals, rules) depth 12
+
+pub returns : goal.returns
+unfolding cascade_verdict
+returns c = search (refusals, rules) depth 12
