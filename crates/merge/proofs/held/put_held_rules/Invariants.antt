@@ -1,0 +1,12 @@
+use Prim.Native.Nat.{◌+◌, ◌-◌, ◌*◌}
+use Rattle.sheet.specs.Layout.{RULE-ORIGIN, RULE-WORDS}
+use Rattle.given.specs.Leaves.{held_row}
+use Rattle.merge.proofs.Storing.{Laying}
+use borrow.Author.Rules.{rules}
+use Rattle.merge.proofs.held.put_held_rules.Given as goal
+
+abbrev pub invariant-loop-k : goal.invariant-loop-k
+invariant-loop-k l = Laying (held_row l.c l.other) (RULE-ORIGIN + RULE-WORDS * l.c.rules) l.n l.initial.sheet l.k l.sheet
+
+abbrev pub decreases-loop-k : goal.decreases-loop-k
+decreases-loop-k l = l.n - l.k

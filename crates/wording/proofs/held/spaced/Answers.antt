@@ -1,0 +1,15 @@
+use Prim.Native.Nat.{◌-◌}
+use Rattle.wording.proofs.Saying.{spacing_start, spacing_one, spacing_end}
+use borrow.Author.Rules.{rules}
+use Rattle.wording.proofs.held.spaced.Goals as goal
+
+-- `wording::held::spaced` meets its contract. Assumes nothing.
+
+pub loop-i-init : goal.loop-i-init
+loop-i-init c = spacing_start _ _ _
+
+pub loop-i-preserved : goal.loop-i-preserved
+loop-i-preserved c = search (spacing_one, rules)
+
+pub returns : goal.returns
+returns c = search (spacing_end, rules)
