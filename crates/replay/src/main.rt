@@ -4,7 +4,7 @@
 
 ghost use Rattle.std.specs.Prelude.{◌≤◌, length};
 
-use libc::{STDIN_FILENO, STDOUT_FILENO};
+use screen::{STDIN_FILENO, STDOUT_FILENO};
 
 // A longer body is answered `long`.
 const LONGEST: usize = 4096;

@@ -2,7 +2,7 @@
 ghost use Rattle.std.specs.Prelude.{◌≡◌, ◌≤◌, ◌-◌, length, take, drop};
 ghost use Rattle.std.proofs.lemmas.List.Edits.{sets};
 
-use libc::STDIN_FILENO;
+use crate::STDIN_FILENO;
 
 // Moves the bytes from `at` on to the front; how many they are.
 pub fn shift(input: &mut [u8], at: usize) -> usize

@@ -5,9 +5,11 @@ ghost use Rattle.std.specs.Prelude.{◌≡◌, cond, leb};
 ghost use Rattle.screen.specs.Labelled.{Labelled};
 ghost use Rattle.screen.specs.Ends.{at_front, Ends};
 
-use libc::STDOUT_FILENO;
-
 pub mod held;
+
+// Where bytes come from and go to: standard input and output, by the numbers that each program is started with.
+pub const STDIN_FILENO: i32 = 0;
+pub const STDOUT_FILENO: i32 = 1;
 
 // A label, and a number.
 pub fn labelled(out: &mut [u8], at: usize, label: &[u8], n: u64) -> usize

@@ -1,0 +1,15 @@
+use borrow.Author.Rules.{rules}
+use Rattle.entering.proofs.Fronts.{fronts}
+use Rattle.entering.proofs.enter.front_verdict.Goals as goal
+
+pub returns-then-v-ne0 : goal.returns-then-v-ne0
+returns-then-v-ne0 c = search (fronts, rules)
+
+pub returns-then-not-row_fits : goal.returns-then-not-row_fits
+returns-then-not-row_fits c = search (fronts, rules)
+
+pub returns-then-not-row_ascends : goal.returns-then-not-row_ascends
+returns-then-not-row_ascends c = search (fronts, rules)
+
+pub returns : goal.returns
+returns c = search (fronts, rules)

@@ -1,0 +1,33 @@
+use borrow.Author.Rules.{rules}
+use mathlib.Core.Path.{sym}
+use lib.Seq.{length-take-le}
+use Rattle.table.proofs.Roots.{held_within}
+use Rattle.entering.proofs.Entered.{rises_read, room_read, settled_next}
+use Rattle.entering.proofs.held.settle_in.Goals as goal
+
+pub advance-counts-requires : goal.advance-counts-requires
+advance-counts-requires c =
+    let top = c in
+    let list = top in
+    let s = list in
+    record { sheet_value = s.requires.sheet_value.0; subject_value = s.requires.row_value; parent_value = (rises_read _ _ list.list_of.ensures s.requires.sheet_value.1.parent_up, rises_read _ _ top.list_of-2.ensures s.requires.sheet_value.1.root_up); room = room_read _ _ _ _ _ _ _ _ list.list_of.ensures top.list_of-2.ensures s.requires.room }
+
+pub slice_bounds-settle-end : goal.slice_bounds-settle-end
+slice_bounds-settle-end c = search (held_within, rules)
+
+pub slice_bounds-settle-end-2 : goal.slice_bounds-settle-end-2
+slice_bounds-settle-end-2 c = sym (length-take-le _ _ (held_within c.advance-counts.ensures.cursors_held_lem))
+
+pub slice_bounds-settle-end-3 : goal.slice_bounds-settle-end-3
+slice_bounds-settle-end-3 c = search (held_within, rules)
+
+pub slice_bounds-settle-end-4 : goal.slice_bounds-settle-end-4
+slice_bounds-settle-end-4 c = sym (length-take-le _ _ (held_within c.advance-counts.ensures.matched_held_lem))
+
+pub returns : goal.returns
+returns c =
+    let s = c in
+    let a = s in
+    let top = a in
+    let list = top in
+    settled_next a.advance-counts.ensures _ _ _ _ _ _ _ _ _ _ list.requires.sheet_value.1 list.list_of.ensures top.list_of-2.ensures s.settle.ensures
