@@ -1,0 +1,24 @@
+use borrow.Author.Rules.{rules}
+use Rattle.table.proofs.Roots.{held_within}
+use Rattle.cascade.proofs.Written.{held_part}
+use Rattle.replies.proofs.Replying.{in_shape, words_few, words_are}
+use Rattle.replies.proofs.held.changed_words.Goals as goal
+
+-- `replies::held::changed_words` meets its contract. Assumes nothing.
+
+pub changed_properties-n-requires : goal.changed_properties-n-requires
+changed_properties-n-requires c = search (in_shape, rules)
+
+pub slice_bounds-list-end : goal.slice_bounds-list-end
+slice_bounds-list-end c = search (held_within, rules)
+
+pub slice_bounds-widen_into-end : goal.slice_bounds-widen_into-end
+slice_bounds-widen_into-end c = search (held_part, rules)
+
+pub returns : goal.returns
+returns c =
+    let x = c in
+    let p = x in
+    let g = p.requires in
+    let u = p.changed_properties-n.ensures in
+    (u.count, words_few g.covered g.bound.0 g.bound.1 u, words_are g.covered g.bound.0 g.bound.1 u _ g.bound.2 _ x.widen_into.ensures)

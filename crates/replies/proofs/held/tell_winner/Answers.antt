@@ -1,0 +1,11 @@
+use borrow.Author.Rules.{rules}
+use Rattle.replies.proofs.Replying.{in_shape, winner_said}
+use Rattle.replies.proofs.held.tell_winner.Goals as goal
+
+-- `replies::held::tell_winner` meets its contract. Assumes nothing.
+
+pub winning_source-best-requires : goal.winning_source-best-requires
+winning_source-best-requires c = search (in_shape, rules)
+
+pub returns : goal.returns
+returns c = search (winner_said, rules)
