@@ -166,7 +166,7 @@ module _ {w : List ℕ} where
       rules_given_lem = given ∙ listed_is p
 
       -- "handed back as the part of the lent buffer that holds it": it stands where they stand in the buffer
-      pub rules_place : (part.ptr.0 ≡ whole.ptr.0) × (part.ptr.1 ≡ whole.ptr.1 + 4 * start_of (matched_ends t.states) number)
+      pub rules_place : (part.ref_ptr.0 ≡ whole.ref_ptr.0) × (part.ref_ptr.1 ≡ whole.ref_ptr.1 + 4 * start_of (matched_ends t.states) number)
       rules_place = (g.block, rw reached_accepted at g.place)
 
     -- `matching_part`: what it answers is where they stand

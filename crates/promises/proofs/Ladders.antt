@@ -32,6 +32,7 @@ use Rattle.promises.specs.Refusing.{First, here, later, None, InTurn, Refusing, 
 -- ---- `first_of` is what the checks give: so it is of the calls that answer a verdict's number, those of `admit` and `joining` and `matcher::states::state_verdict`
 
 first_number : (l : List Check) (n : ℕ) → First l n → first_of l ≡ n
+first_number [] n x = elim x [ ]
 first_number (c ∷ l) n (here f e) = first_here c l f ∙ e
 first_number (c ∷ l) n (later f x) = first_next c l f ∙ first_number l n x
 
@@ -56,6 +57,7 @@ number_none (c ∷ l) p e = by c.fails refl (λ f. number_none l (and_right (ltb
     by false f r = None.more f (r f)
 
 first_positive : (l : List Check) (n : ℕ) → positive l ≡ true → First l n → n ≢ 0
+first_positive [] n p x z = elim x [ ]
 first_positive (c ∷ l) n p (here f e) z = omega (arith, ltb-true 0 c.number (and_left _ _ p), e, z)
 first_positive (c ∷ l) n p (later f x) z = first_positive l n (and_right (ltb 0 c.number) _ p) x z
 
@@ -135,6 +137,7 @@ module _ (b : List Check) (n : ℕ) where
   apart (c ∷ a) (later f x) = elim (apart a x) [ inl y ↦ inl (later f y) | inr y ↦ inr (None.more f y.0, y.1) ]
 
   before : (a : List Check) → First a n → First (a ++ b) n
+  before [] x = elim x [ ]
   before (c ∷ a) (here f e) = here f e
   before (c ∷ a) (later f x) = later f (before a x)
 
@@ -149,6 +152,7 @@ first_append a b n = (apart b n a, λ x. elim x [ inl y ↦ before b n a y | inr
 
 -- no checks give no number
 first_some : (l : List Check) (m : ℕ) → First l m → l ≡ [] → ⊥
+first_some [] m x q = elim x [ ]
 first_some (c ∷ l) m (here f e) q = let z = ap length q in omega arith
 first_some (c ∷ l) m (later f x) q = let z = ap length q in omega arith
 

@@ -1,0 +1,39 @@
+use mathlib.Core.Path.{sym, ◌∙◌}
+use native.Mathlib.Omega.{arith}
+use borrow.Author.Tests.{not-false}
+use Rattle.house.proofs.Front.{item_known, item_room}
+use Rattle.making.proofs.Taking.{moved_before}
+use Rattle.making.proofs.Feeding.{open_later, open_none, open_first}
+use borrow.Author.Rules.{rules}
+use mathlib.Core.Path.{ap}
+use mathlib.Core.Bool.{not}
+use Rattle.making.proofs.held.open.Goals as goal
+
+-- `making::held::open` meets its contract. Assumes nothing.
+
+pub returns-then-m-ne0 : goal.returns-then-m-ne0
+returns-then-m-ne0 c = λ g b. search (open_later, rules)
+
+pub returns-then-not-is_whole : goal.returns-then-not-is_whole
+returns-then-not-is_whole c = λ g b. search (open_none, rules)
+
+pub record_in-item-requires : goal.record_in-item-requires
+record_in-item-requires c = sym c.is_whole.ensures ∙ not-false _ (ap not c.if-not-is_whole.false)
+
+pub size_of-requires : goal.size_of-requires
+size_of-requires c =
+    let d = c in
+    item_known _ _ d.record_in-item.ensures.0 (sym d.is_whole.ensures ∙ not-false _ (ap not d.if-not-is_whole.false))
+
+pub past-requires : goal.past-requires
+past-requires c =
+    let d = c in
+    let room = d.well_formed.0 in
+    item_room _ _ d.record_in-item.ensures.0 (sym d.is_whole.ensures ∙ not-false _ (ap not d.if-not-is_whole.false)) _ _ 0 c.size_of.ensures.0 c.begin-begun.ensures.0 (omega arith)
+
+pub returns : goal.returns
+returns c =
+    λ g b.
+    let d = c in
+    let e = d in
+    open_first _ _ _ g b _ e.is_whole.ensures (ap not d.if-not-is_whole.false) _ d.record_in-item.ensures.0 _ _ (c.begin-begun.ensures.1 g (moved_before _ 0 b) e.if-m-ne0.false) _ c.size_of.ensures.0 _ c.past.ensures
