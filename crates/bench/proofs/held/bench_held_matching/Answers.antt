@@ -1,0 +1,8 @@
+use borrow.Author.Rules.{rules}
+use Rattle.bench.proofs.Laws.{copied_is}
+use Rattle.bench.proofs.held.bench_held_matching.Goals as goal
+
+-- `bench::held::bench_held_matching` meets its contract. Assumes nothing.
+
+pub returns : goal.returns
+returns c = search (copied_is, rules)

@@ -1,0 +1,6 @@
+use Rattle.walk.proofs.go_on.Goals as goal
+
+-- `walk::go_on` meets its contract. Assumes nothing.
+
+pub answer-requires : goal.answer-requires
+answer-requires c = record { have_in_bounds = c.requires.have_in_bounds; sheet_value = c.requires.sheet_value c.if-m-eq3.true }
