@@ -30,4 +30,4 @@ store:
 
 # make clean   remove what was built
 clean:
-	rm -rf target oracle/target
+	rm -rf target oracle/target crates/*/out

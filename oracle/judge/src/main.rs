@@ -53,7 +53,6 @@ judge: answers test cases from the published code
       each core, in a folder with document 01's example, the file `sample`; for
       each byte that it reads it answers the file `in` there by the file `out`
       and then writes 4 bytes, how the process that did so ended
-      (tools/served.c)
   judge store lists|paths|builds|walks|cascades --seed N --count N
               --cases FILE --answers FILE
       writes N cases and the judge's answers to them; of builds, walks and
