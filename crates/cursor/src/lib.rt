@@ -5,20 +5,20 @@
 ghost use Rattle.std.specs.Prelude.{◌≡◌};
 ghost use Rattle.cursor.specs.Yielding.{next_told, next_of, index_after};
 
-#[derive(Drop)]
+#[derive(Clone, Copy)]
 pub struct RuleCursor<'a> {
     pub rules: &'a [u32],
     pub index: usize,
 }
 
-#[derive(Drop)]
+#[derive(Clone, Copy)]
 pub enum NextRule {
     Rule(u32),
     End,
 }
 
 // A rule yielded, and the index afterwards.
-#[derive(Drop)]
+#[derive(Clone, Copy)]
 pub struct Yielded {
     pub rule: NextRule,
     pub index: usize,

@@ -2,7 +2,7 @@
 use mathlib.Core.Path.{◌≡◌, refl, sym, ◌∙◌}
 use mathlib.Core.Bool.{true}
 use mathlib.Core.List.{List, [], ◌∷◌, ◌++◌, flat_map}
-use Prim.Native.Nat.{ℕ, zero, suc, ◌+◌, ◌-◌, ◌*◌, ◌≤◌, ◌<◌}
+use Prim.Native.Nat.{ℕ, zero, suc, ◌+◌, ◌*◌, ◌≤◌, ◌<◌}
 use native.Mathlib.Nat.{zero-add, add-zero, mul-suc}
 use native.Mathlib.Numerals.{add-one}
 use native.Mathlib.Omega.{arith}
@@ -20,7 +20,6 @@ use Rattle.selector.specs.Checks.{row_fits}
 use Rattle.selector.specs.Weighing.{counts_of, counts_in}
 use Rattle.selector.proofs.WeighLaws.{classes_few, pseudos_few, counts_next}
 use Rattle.style.specs.Entries.{Entry, entries_of}
-use Rattle.sheet.specs.Layout
 use Rattle.sheet.specs.Sheets.{Rule}
 use Rattle.sheet.specs.Laying.{step_words, steps_words, rule_words, rule_entries, steps_of, ids_held}
 use Rattle.laid.proofs.Frame

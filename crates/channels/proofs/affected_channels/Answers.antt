@@ -1,4 +1,3 @@
-use Prim.Native.Nat.{◌-◌}
 use borrow.Author.Rules.{rules}
 use Rattle.channels.proofs.Joining.{join_start, join_next, join_end}
 use Rattle.channels.proofs.affected_channels.Goals as goal

@@ -1,3 +1,4 @@
+use borrow.Author.Rules.{rules}
 use mathlib.Core.Path.{sym}
 use Rattle.cursor.proofs.Yielding.{next_within, next_end}
 use Rattle.cursor.proofs.rule_at.Goals as goal
@@ -7,7 +8,7 @@ use Rattle.cursor.proofs.rule_at.Goals as goal
 -- Assumes nothing.
 
 pub returns-then-index-rules : goal.returns-then-index-rules
-returns-then-index-rules c = sym (next_within _ _ c.if-index-rules.true)
+returns-then-index-rules c = search (next_within, rules)
 
 pub returns : goal.returns
 returns c = sym (next_end _ _ c.if-index-rules.false)

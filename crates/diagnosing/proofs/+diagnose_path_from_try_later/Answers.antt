@@ -1,8 +1,4 @@
-use Rattle.std.proofs.Common.{rules, ◌≡◌, false, ◌<◌, ◌≤◌, ◌+◌, ◌-◌, ℕ, ◌*◌, length, ◌/◌, ◌%◌, Bool, true, nat_eq, nat_lt, List, [], ◌∷◌, ◌++◌, slice_index_or, slice_set, bit_and, bit_or, Fits, w8, w32, w64, Bor, MutBor}
-use Rattle.theory.specs.Lists.{spread}
-use Rattle.selector.specs.Checks.{subjects_off}
-use Rattle.selector.specs.Matching.{hit_at, far_at}
-use Rattle.selector.specs.Diagnosing.{tried, judge, diagnosis_told, diagnosis_of}
+use Rattle.std.proofs.Common.{rules}
 use Rattle.diagnosing.proofs.+diagnose_path_from_try_later.Goals as goal
 use Rattle.diagnosing.proofs.Judging.{judging}
 

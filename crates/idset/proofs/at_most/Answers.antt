@@ -1,4 +1,3 @@
-use Prim.Native.Nat.{◌-◌}
 use borrow.Author.Rules.{rules}
 use Rattle.idset.proofs.AtMost.{below_start, below_stop, below_next, below_end}
 use Rattle.idset.proofs.at_most.Goals as goal

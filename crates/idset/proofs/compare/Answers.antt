@@ -1,5 +1,4 @@
 use mathlib.Core.Path.{sym, ◌∙◌}
-use Prim.Native.Nat.{◌-◌}
 use native.Mathlib.Numerals.{add-one}
 use native.Mathlib.Omega.{arith}
 use Rattle.theory.proofs.Compare.{compare_at_less, compare_at_more, compare_at_same, compare_at_longer, compare_at_shorter, compare_at_end}

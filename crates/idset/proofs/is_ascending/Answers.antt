@@ -1,4 +1,3 @@
-use Prim.Native.Nat.{◌-◌}
 use native.Mathlib.Omega.{arith}
 use borrow.Author.Rules.{rules}
 use Rattle.idset.proofs.Ascending.{ascent_start, ascent_stop, ascent_next, ascent_end}

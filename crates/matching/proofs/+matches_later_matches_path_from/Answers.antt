@@ -1,6 +1,4 @@
-use Rattle.std.proofs.Common.{rules, ◌≡◌, false, ◌<◌, ◌≤◌, ◌+◌, ◌-◌, ℕ, ◌*◌, length, ◌/◌, ◌%◌, Bool, true, nat_eq, nat_lt, List, [], ◌∷◌, ◌++◌, slice_index_or, slice_set, bit_and, bit_or, Fits, w8, w32, w64, Bor, MutBor}
-use Rattle.selector.specs.Checks.{subjects_off}
-use Rattle.selector.specs.Matching.{any_from, fits_from, hit_at, far_at, matching_told, matching_of}
+use Rattle.std.proofs.Common.{rules}
 use Rattle.matching.proofs.+matches_later_matches_path_from.Goals as goal
 use Rattle.matching.proofs.Ways.{matching}
 

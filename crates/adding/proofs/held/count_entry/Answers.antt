@@ -17,5 +17,4 @@ overflow_add-word c = count_fits _ _ c.word.ensures (c.requires.le_rules c.if-f-
 
 pub returns : goal.returns
 returns c =
-    let start = c in
-    count_one _ start.args.rules.now _ (3 * start.args.f.rules - 3 + 2) _ c.if-f-ne2.false c.word.ensures c.put.ensures
+    count_one _ c.args.rules.now _ (3 * c.args.f.rules - 3 + 2) _ c.if-f-ne2.false c.word.ensures c.put.ensures

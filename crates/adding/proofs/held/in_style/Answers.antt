@@ -3,15 +3,12 @@ use Rattle.adding.proofs.held.in_style.Goals as goal
 
 pub returns-then-f-eq1 : goal.returns-then-f-eq1
 returns-then-f-eq1 c =
-    let start = c in
-    style_direct start.args.f.kind start.args.f.rules c.if-f-eq1.true
+    style_direct c.args.f.kind c.args.f.rules c.if-f-eq1.true
 
 pub returns-then-f-ne2 : goal.returns-then-f-ne2
 returns-then-f-ne2 c =
-    let start = c in
-    style_none start.args.f.kind start.args.f.rules c.if-f-eq1.false c.if-f-ne2.true
+    style_none c.args.f.kind c.args.f.rules c.if-f-eq1.false c.if-f-ne2.true
 
 pub returns : goal.returns
 returns c =
-    let start = c in
-    style_rule start.args.f.kind start.args.f.rules c.if-f-ne2.false
+    style_rule c.args.f.kind c.args.f.rules c.if-f-ne2.false

@@ -7,15 +7,12 @@ use Rattle.adding.proofs.held.take_requirement.Goals as goal
 
 pub returns-then-not-in_step : goal.returns-then-not-in_step
 returns-then-not-in_step c =
-    let start = c in
-    stepless _ _ start.requires.sound start.args.sheet.now start.args.which start.args.id _ _ c.in_step.ensures (not-true _ (ap not c.if-not-in_step.true)) c.refused.ensures
+    stepless _ _ c.requires.sound c.args.sheet.now c.args.which c.args.id _ _ c.in_step.ensures (not-true _ (ap not c.if-not-in_step.true)) c.refused.ensures
 
 pub returns-then-which-gt3 : goal.returns-then-which-gt3
 returns-then-which-gt3 c =
-    let start = c in
-    which_refused _ _ start.requires.sound start.args.sheet.now start.args.which start.args.id _ _ c.in_step.ensures (not-false _ (ap not c.if-not-in_step.false)) c.if-which-gt3.true c.refused-then-which-gt3.ensures
+    which_refused _ _ c.requires.sound c.args.sheet.now c.args.which c.args.id _ _ c.in_step.ensures (not-false _ (ap not c.if-not-in_step.false)) c.if-which-gt3.true c.refused-then-which-gt3.ensures
 
 pub put_requirement-requires : goal.put_requirement-requires
 put_requirement-requires c =
-    let start = c in
-    record { sheet_value = start.requires.sheet_value; sound = start.requires.sound; numbers_value = (sym (step_tested _ _ start.requires.sound _ c.in_step.ensures) ∙ not-false _ (ap not c.if-not-in_step.false), c.if-which-gt3.false) }
+    record { sheet_value = c.requires.sheet_value; sound = c.requires.sound; numbers_value = (sym (step_tested _ _ c.requires.sound _ c.in_step.ensures) ∙ not-false _ (ap not c.if-not-in_step.false), c.if-which-gt3.false) }

@@ -3,13 +3,11 @@ use Rattle.adding.proofs.held.take_step.Goals as goal
 
 pub returns-then-f-ne2 : goal.returns-then-f-ne2
 returns-then-f-ne2 c =
-    let start = c in
-    step_no_group _ _ _ _ _ _ _ start.requires start.args.code _ c.if-f-ne2.true c.refused.ensures
+    step_no_group _ _ _ _ _ _ _ c.requires c.args.code _ c.if-f-ne2.true c.refused.ensures
 
 pub returns-then-f-eq0 : goal.returns-then-f-eq0
 returns-then-f-eq0 c =
-    let start = c in
-    step_no_rule _ _ _ _ _ _ _ start.requires start.args.code _ c.if-f-ne2.false c.if-f-eq0.true c.refused-then-f-eq0.ensures
+    step_no_rule _ _ _ _ _ _ _ c.requires c.args.code _ c.if-f-ne2.false c.if-f-eq0.true c.refused-then-f-eq0.ensures
 
 pub take_first_step-requires : goal.take_first_step-requires
 take_first_step-requires c = let asked = first_asked _ _ _ _ _ _ _ c.requires c.if-f-ne2.false c.if-f-eq0.false _ c.word-n.ensures c.if-n-eq0.true in record { sound = asked.0; kind_value = asked.1 }

@@ -10,8 +10,7 @@ returns-then-rules_over c = search (group_over, rules)
 
 pub rules_verdict-each-requires : goal.rules_verdict-each-requires
 rules_verdict-each-requires c =
-    let d = c in let w = d in let p = w in let o = p in
-    group_few _ o.requires _ _ _ o.rules_over.ensures p.if-rules_over.false _ _ _ d.wide.ensures w.word.ensures c.all_entries.ensures
+    group_few _ c.requires _ _ _ c.rules_over.ensures c.if-rules_over.false _ _ _ c.wide.ensures c.word.ensures c.all_entries.ensures
 
 pub returns-then-each-ne0 : goal.returns-then-each-ne0
 returns-then-each-ne0 c = search (group_rule, rules)

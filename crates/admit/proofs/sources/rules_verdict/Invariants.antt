@@ -1,4 +1,3 @@
-use borrow.Author.Rules.{rules}
 use Prim.Native.Nat.{◌-◌}
 use Rattle.given.specs.Given.{given}
 use Rattle.admit.proofs.Rules.{Judging}

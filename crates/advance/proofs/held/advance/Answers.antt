@@ -1,5 +1,4 @@
 use borrow.Author.Rules.{rules}
-use Prim.Native.Nat.{◌-◌}
 use Rattle.advance.proofs.Advanced.{turns_start, turns_next, turns_less, turns_end, goes_true}
 use Rattle.advance.proofs.held.advance.Goals as goal
 

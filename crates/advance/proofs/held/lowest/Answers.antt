@@ -10,8 +10,7 @@ bounds-parent-i c = search (parent_left, rules)
 
 pub overflow_add-result : goal.overflow_add-result
 overflow_add-result c =
-    let s = c in
-    let h = parent_left s.args.parent.now s.args.root.now s.args.i s.args.j s.requires.root_value c.if-root-j.true in
+    let h = parent_left c.args.parent.now c.args.root.now c.args.i c.args.j c.requires.root_value c.if-root-j.true in
     search rules
 
 pub returns-then-root-j : goal.returns-then-root-j

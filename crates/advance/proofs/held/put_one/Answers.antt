@@ -13,24 +13,9 @@ returns-then-end-s c = search (past_steps, rules)
 
 pub put_moved-requires : goal.put_moved-requires
 put_moved-requires c =
-    let p = c in
-    let e = p in
-    let k = e in
-    let f = k in
-    let u = f in
-    let n = u in
-    let s = n in
-    let there = step_there _ _ _ n.word.ensures s.requires.sheet_value u.if-word-r.false _ f.start_of.ensures _ k.cell-end.ensures e.if-end-s.false in
-    record { sheet_value = (search rules, there, search (cursor_low, rules)); subject_value = search rules; free = p.put_kept-cursors.ensures.free; free_2 = search rules }
+    let there = step_there _ _ _ c.word.ensures c.requires.sheet_value c.if-word-r.false _ c.start_of.ensures _ c.cell-end.ensures c.if-end-s.false in
+    record { sheet_value = (search rules, there, search (cursor_low, rules)); subject_value = search rules; free = c.put_kept-cursors.ensures.free; free_2 = search rules }
 
 pub returns : goal.returns
 returns c =
-    let m = c in
-    let p = m in
-    let e = p in
-    let k = e in
-    let f = k in
-    let u = f in
-    let n = u in
-    let s = n in
-    at_step_lem _ _ s.requires.free s.requires.free_2 _ n.word.ensures u.if-word-r.false _ _ f.start_of.ensures k.cell-end.ensures e.if-end-s.false p.put_kept-cursors.ensures m.put_moved.ensures
+    at_step_lem _ _ c.requires.free c.requires.free_2 _ c.word.ensures c.if-word-r.false _ _ c.start_of.ensures c.cell-end.ensures c.if-end-s.false c.put_kept-cursors.ensures c.put_moved.ensures

@@ -9,8 +9,7 @@ returns-then-v-ne0 c = search (changed_refused, rules)
 
 pub changed_properties-n-requires : goal.changed_properties-n-requires
 changed_properties-n-requires c =
-    let d = c in
-    let asked = pair_passed _ _ _ _ _ _ _ _ _ _ _ d.pair_verdict-v.ensures d.if-v-ne0.false in record { sheet_value = asked.0; bound = asked.1 }
+    let asked = pair_passed _ _ _ _ _ _ _ _ _ _ _ c.pair_verdict-v.ensures c.if-v-ne0.false in record { sheet_value = asked.0; bound = asked.1 }
 
 pub returns-then-out-n : goal.returns-then-out-n
 returns-then-out-n c = search (changed_short, rules)

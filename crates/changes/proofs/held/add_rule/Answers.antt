@@ -1,4 +1,3 @@
-use Prim.Native.Nat.{◌-◌}
 use native.Mathlib.Omega.{arith}
 use borrow.Author.Rules.{rules}
 use Rattle.changes.proofs.Gathering.{inserting_start, inserting_asks, inserting_next, inserting_end}

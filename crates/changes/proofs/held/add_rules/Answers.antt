@@ -1,5 +1,4 @@
 use mathlib.Core.Path.{refl}
-use Prim.Native.Nat.{◌-◌}
 use borrow.Author.Rules.{rules}
 use Rattle.changes.proofs.Gathering.{asking_start, asking_asks, asking_skip, asking_next, asking_end}
 use Rattle.changes.proofs.held.add_rules.Goals as goal
@@ -12,9 +11,7 @@ loop-i-preserved-then-contains c = search (asking_skip, rules)
 
 pub add_rule-n-requires : goal.add_rule-n-requires
 add_rule-n-requires c =
-    let a = c in
-    let l = a in
-    asking_asks l.loop-i.invariant l.loop-i-test.true refl a.contains.ensures c.if-contains.false
+    asking_asks c.loop-i.invariant c.loop-i-test.true refl c.contains.ensures c.if-contains.false
 
 pub loop-i-preserved : goal.loop-i-preserved
 loop-i-preserved c = search (asking_next, rules)

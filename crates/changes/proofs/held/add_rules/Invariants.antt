@@ -1,6 +1,5 @@
 use Prim.Native.Nat.{◌-◌}
 use lib.ListN.{length}
-use borrow.Author.Rules.{rules}
 use Rattle.changes.proofs.Gathering.{Asking}
 use Rattle.changes.proofs.held.add_rules.Given as goal
 

@@ -13,12 +13,10 @@ slice_bounds-pick-end c = listed_count c.gather-n.ensures
 
 pub pick-requires : goal.pick-requires
 pick-requires c =
-    let g = c in
-    let p = g.requires in
-    record { sheet_value = p.sheet_value; are_rules = p.are_rules; ids_in_bounds = listed_asks p.sheet_value.0 p.are_rules g.gather-n.ensures (search (c.words-1.given, rules)) }
+    let p = c.requires in
+    record { sheet_value = p.sheet_value; are_rules = p.are_rules; ids_in_bounds = listed_asks p.sheet_value.0 p.are_rules c.gather-n.ensures (search (c.words-1.given, rules)) }
 
 pub returns : goal.returns
 returns c =
-    let g = c in
-    let p = g.requires in
-    listed_changed p.sheet_value.0 p.are_rules g.gather-n.ensures _ c.pick.ensures
+    let p = c.requires in
+    listed_changed p.sheet_value.0 p.are_rules c.gather-n.ensures _ c.pick.ensures

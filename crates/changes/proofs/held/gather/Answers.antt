@@ -7,9 +7,8 @@ add_rules-some-requires c = let p = c.requires in record { others_value = p.valu
 
 pub add_rules-requires : goal.add_rules-requires
 add_rules-requires c =
-    let a = c in
-    let p = a.requires in
-    record { others_value = p.value.0; others_in_bounds = second_asks _ _ _ p.sheet_value p.are_rules p.value p.in_bounds a.add_rules-some.ensures }
+    let p = c.requires in
+    record { others_value = p.value.0; others_in_bounds = second_asks _ _ _ p.sheet_value p.are_rules p.value p.in_bounds c.add_rules-some.ensures }
 
 pub returns : goal.returns
 returns c = search (all_listed, rules)

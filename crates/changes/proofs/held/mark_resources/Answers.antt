@@ -1,4 +1,3 @@
-use Prim.Native.Nat.{◌-◌}
 use borrow.Author.Rules.{rules}
 use Rattle.changes.proofs.Marking.{marking_start, marking_half, marking_one, marking_none, marking_end}
 use Rattle.changes.proofs.held.mark_resources.Goals as goal
@@ -11,11 +10,7 @@ overflow_cast-word c = search (marking_half, rules)
 
 pub loop-e-preserved-then-reads_resource : goal.loop-e-preserved-then-reads_resource
 loop-e-preserved-then-reads_resource c =
-    let p = c in
-    let t = p in
-    let k = t in
-    let l = k in
-    marking_one l.loop-e.invariant l.loop-e-test.true k.word.ensures t.reads_resource.ensures t.if-reads_resource.true p.word-then-reads_resource.ensures c.mark.ensures
+    marking_one c.loop-e.invariant c.loop-e-test.true c.word.ensures c.reads_resource.ensures c.if-reads_resource.true c.word-then-reads_resource.ensures c.mark.ensures
 
 pub loop-e-preserved : goal.loop-e-preserved
 loop-e-preserved c = search (marking_none, rules)

@@ -1,4 +1,3 @@
-use Prim.Native.Nat.{◌-◌}
 use borrow.Author.Rules.{rules}
 use Rattle.changes.proofs.Picking.{picking_start, picking_room, picking_half, picking_one, picking_none, picking_end}
 use Rattle.changes.proofs.held.pick.Goals as goal

@@ -1,4 +1,3 @@
-use Prim.Native.Nat.{◌-◌}
 use borrow.Author.Rules.{rules}
 use Rattle.selector.proofs.CheckLaws.{coded}
 use Rattle.checks.proofs.held.codes_over.Goals as goal

@@ -3,5 +3,4 @@ use Rattle.closing.proofs.held.close.Goals as goal
 
 pub returns-then-f-eq0 : goal.returns-then-f-eq0
 returns-then-f-eq0 c =
-    let start = c in
-    close_nothing start.args.sheet.now _ _ c.if-f-eq0.true
+    close_nothing c.args.sheet.now _ _ c.if-f-eq0.true

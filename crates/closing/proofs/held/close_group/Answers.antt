@@ -8,41 +8,34 @@ use Rattle.closing.proofs.held.close_group.Goals as goal
 
 pub slice_bounds-push_rules-end : goal.slice_bounds-push_rules-end
 slice_bounds-push_rules-end c =
-    let start = c in
-    let s = start.requires.sound in
+    let s = c.requires.sound in
     sym (length-take-le _ _ (omega (arith, s.rules, s.room.rules)))
 
 pub slice_bounds-push_rules-end-2 : goal.slice_bounds-push_rules-end-2
 slice_bounds-push_rules-end-2 c =
-    let start = c in
-    let s = start.requires.sound in
+    let s = c.requires.sound in
     sym (length-take-le _ _ (steps_room _ _ s))
 
 pub slice_bounds-push_rules-end-3 : goal.slice_bounds-push_rules-end-3
 slice_bounds-push_rules-end-3 c =
-    let start = c in
-    let s = start.requires.sound in
+    let s = c.requires.sound in
     sym (length-take-le _ _ (omega (arith, s.combinators, s.room.combinators, steps_most _ _ s)))
 
 pub slice_bounds-push_rules-end-4 : goal.slice_bounds-push_rules-end-4
 slice_bounds-push_rules-end-4 c =
-    let start = c in
-    let s = start.requires.sound in
+    let s = c.requires.sound in
     sym (length-take-le _ _ (omega (arith, s.entries, s.room.properties)))
 
 pub slice_bounds-push_rules-end-5 : goal.slice_bounds-push_rules-end-5
 slice_bounds-push_rules-end-5 c =
-    let start = c in
-    let s = start.requires.sound in
+    let s = c.requires.sound in
     sym (length-take-le _ _ (omega (arith, s.entries, s.room.kinds)))
 
 pub slice_bounds-push_rules-end-6 : goal.slice_bounds-push_rules-end-6
 slice_bounds-push_rules-end-6 c =
-    let start = c in
-    let s = start.requires.sound in
+    let s = c.requires.sound in
     sym (length-take-le _ _ (omega (arith, s.entries, s.room.numbers)))
 
 pub returns : goal.returns
 returns c =
-    let start = c in
-    close_rules start.args.sheet.now _ _ start.requires.sound _ _ start.requires.sheet_value.1 c.push_rules.ensures
+    close_rules c.args.sheet.now _ _ c.requires.sound _ _ c.requires.sheet_value.1 c.push_rules.ensures

@@ -6,28 +6,23 @@ use Rattle.closing.proofs.held.take_direct.Goals as goal
 
 pub returns-then-origin-gt7 : goal.returns-then-origin-gt7
 returns-then-origin-gt7 c =
-    let start = c in
-    closes_faulty start.args.sheet.now _ _ start.requires.sound start.requires.sheet_value _ _ _ 6 (direct_origin start.args.sheet.now _ _ start.requires.sound start.args.origin c.if-origin-gt7.true) (omega arith) c.refused.ensures
+    closes_faulty c.args.sheet.now _ _ c.requires.sound c.requires.sheet_value _ _ _ 6 (direct_origin c.args.sheet.now _ _ c.requires.sound c.args.origin c.if-origin-gt7.true) (omega arith) c.refused.ensures
 
 pub overflow_add-wide : goal.overflow_add-wide
 overflow_add-wide c =
-    let start = c in
-    let few = (shaped start.args.sheet.now start.requires.sheet_value).styles in
+    let few = (shaped c.args.sheet.now c.requires.sheet_value).styles in
     let u = c.wide.ensures ∙ c.word.ensures in
-    let one = style_one start.args.f.kind _ c.open_style.ensures in
+    let one = style_one c.args.f.kind _ c.open_style.ensures in
     omega arith
 
 pub returns-then-wide-open_style-ge64 : goal.returns-then-wide-open_style-ge64
 returns-then-wide-open_style-ge64 c =
-    let start = c in
-    closes_faulty start.args.sheet.now _ _ start.requires.sound start.requires.sheet_value _ _ _ 2 (direct_over start.args.sheet.now _ _ start.requires.sound start.args.origin c.if-origin-gt7.false _ _ (c.wide.ensures ∙ c.word.ensures) c.open_style.ensures c.if-wide-open_style-ge64.true) (omega arith) c.refused-then-wide-open_style-ge64.ensures
+    closes_faulty c.args.sheet.now _ _ c.requires.sound c.requires.sheet_value _ _ _ 2 (direct_over c.args.sheet.now _ _ c.requires.sound c.args.origin c.if-origin-gt7.false _ _ (c.wide.ensures ∙ c.word.ensures) c.open_style.ensures c.if-wide-open_style-ge64.true) (omega arith) c.refused-then-wide-open_style-ge64.ensures
 
 pub returns-then-v-ne0 : goal.returns-then-v-ne0
 returns-then-v-ne0 c =
-    let start = c in
-    closes_refused start.args.sheet.now _ _ start.requires.sound start.requires.sheet_value _ _ _ _ _ (direct_fine start.args.sheet.now _ _ start.requires.sound start.args.origin c.if-origin-gt7.false _ _ (c.wide.ensures ∙ c.word.ensures) c.open_style.ensures c.if-wide-open_style-ge64.false) c.close-v.ensures c.if-v-ne0.true c.refused-then-v-ne0.ensures
+    closes_refused c.args.sheet.now _ _ c.requires.sound c.requires.sheet_value _ _ _ _ _ (direct_fine c.args.sheet.now _ _ c.requires.sound c.args.origin c.if-origin-gt7.false _ _ (c.wide.ensures ∙ c.word.ensures) c.open_style.ensures c.if-wide-open_style-ge64.false) c.close-v.ensures c.if-v-ne0.true c.refused-then-v-ne0.ensures
 
 pub returns : goal.returns
 returns c =
-    let start = c in
-    closes_opened start.args.sheet.now _ _ start.requires.sound start.requires.sheet_value _ _ _ _ _ (direct_fine start.args.sheet.now _ _ start.requires.sound start.args.origin c.if-origin-gt7.false _ _ (c.wide.ensures ∙ c.word.ensures) c.open_style.ensures c.if-wide-open_style-ge64.false) c.close-v.ensures (λ k. omega (arith, c.shared_slice_known-4-1.given k)) c.if-v-ne0.false 1 start.args.origin _ (omega arith) (newly_direct start.args.origin _) c.opened.ensures c.accepted.ensures
+    closes_opened c.args.sheet.now _ _ c.requires.sound c.requires.sheet_value _ _ _ _ _ (direct_fine c.args.sheet.now _ _ c.requires.sound c.args.origin c.if-origin-gt7.false _ _ (c.wide.ensures ∙ c.word.ensures) c.open_style.ensures c.if-wide-open_style-ge64.false) c.close-v.ensures (λ k. omega (arith, c.shared_slice_known-4-1.given k)) c.if-v-ne0.false 1 c.args.origin _ (omega arith) (newly_direct c.args.origin _) c.opened.ensures c.accepted.ensures

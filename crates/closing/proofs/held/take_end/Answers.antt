@@ -5,10 +5,8 @@ use Rattle.closing.proofs.held.take_end.Goals as goal
 
 pub returns-then-v-ne0 : goal.returns-then-v-ne0
 returns-then-v-ne0 c =
-    let start = c in
-    closes_refused start.args.sheet.now _ _ start.requires.sound start.requires.sheet_value _ _ _ _ _ refl c.close-v.ensures c.if-v-ne0.true c.refused.ensures
+    closes_refused c.args.sheet.now _ _ c.requires.sound c.requires.sheet_value _ _ _ _ _ refl c.close-v.ensures c.if-v-ne0.true c.refused.ensures
 
 pub returns : goal.returns
 returns c =
-    let start = c in
-    closes_opened start.args.sheet.now _ _ start.requires.sound start.requires.sheet_value _ _ _ _ _ refl c.close-v.ensures (λ k. omega (arith, c.shared_slice_known-4-1.given k)) c.if-v-ne0.false 0 0 _ (omega arith) (newly_nothing _) c.opened.ensures c.accepted.ensures
+    closes_opened c.args.sheet.now _ _ c.requires.sound c.requires.sheet_value _ _ _ _ _ refl c.close-v.ensures (λ k. omega (arith, c.shared_slice_known-4-1.given k)) c.if-v-ne0.false 0 0 _ (omega arith) (newly_nothing _) c.opened.ensures c.accepted.ensures

@@ -4,15 +4,12 @@ use Rattle.closing.proofs.held.take_group.Goals as goal
 
 pub returns-then-origin-gt7 : goal.returns-then-origin-gt7
 returns-then-origin-gt7 c =
-    let start = c in
-    closes_faulty start.args.sheet.now _ _ start.requires.sound start.requires.sheet_value _ _ _ 6 (group_origin start.args.origin c.if-origin-gt7.true) (omega arith) c.refused.ensures
+    closes_faulty c.args.sheet.now _ _ c.requires.sound c.requires.sheet_value _ _ _ 6 (group_origin c.args.origin c.if-origin-gt7.true) (omega arith) c.refused.ensures
 
 pub returns-then-v-ne0 : goal.returns-then-v-ne0
 returns-then-v-ne0 c =
-    let start = c in
-    closes_refused start.args.sheet.now _ _ start.requires.sound start.requires.sheet_value _ _ _ _ _ (group_fine start.args.origin c.if-origin-gt7.false) c.close-v.ensures c.if-v-ne0.true c.refused-then-v-ne0.ensures
+    closes_refused c.args.sheet.now _ _ c.requires.sound c.requires.sheet_value _ _ _ _ _ (group_fine c.args.origin c.if-origin-gt7.false) c.close-v.ensures c.if-v-ne0.true c.refused-then-v-ne0.ensures
 
 pub returns : goal.returns
 returns c =
-    let start = c in
-    closes_opened start.args.sheet.now _ _ start.requires.sound start.requires.sheet_value _ _ _ _ _ (group_fine start.args.origin c.if-origin-gt7.false) c.close-v.ensures (λ k. omega (arith, c.shared_slice_known-4-1.given k)) c.if-v-ne0.false 2 start.args.origin _ (omega arith) (newly_rules start.args.origin _) c.opened.ensures c.accepted.ensures
+    closes_opened c.args.sheet.now _ _ c.requires.sound c.requires.sheet_value _ _ _ _ _ (group_fine c.args.origin c.if-origin-gt7.false) c.close-v.ensures (λ k. omega (arith, c.shared_slice_known-4-1.given k)) c.if-v-ne0.false 2 c.args.origin _ (omega arith) (newly_rules c.args.origin _) c.opened.ensures c.accepted.ensures

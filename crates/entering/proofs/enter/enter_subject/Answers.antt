@@ -7,8 +7,7 @@ returns-then-v-ne0 c = search (enter_refused, rules)
 
 pub enter_subject-settled-requires : goal.enter_subject-settled-requires
 enter_subject-settled-requires c =
-    let z = c in
-    let asked = front_passed _ _ _ _ _ _ _ _ _ _ z.front_verdict-v.ensures z.if-v-ne0.false in record { sheet_value = asked.0; row_value = asked.1 }
+    let asked = front_passed _ _ _ _ _ _ _ _ _ _ c.front_verdict-v.ensures c.if-v-ne0.false in record { sheet_value = asked.0; row_value = asked.1 }
 
 pub returns-in-At : goal.returns-in-At
 returns-in-At c = search (enter_entered, rules)

@@ -10,11 +10,7 @@ settle_next-settled-requires c = let q = c.requires in record { sheet_value = (q
 
 pub returns-in-At : goal.returns-in-At
 returns-in-At c =
-    let k = c in
-    let m = k in
-    let s = m in
-    let n = s in
-    entered_new _ _ _ _ _ _ _ _ _ n.cached-link.ensures n.if-link-ne0.false _ _ _ _ _ s.settle_next-settled.ensures _ m.in-At.is _ _ _ k.keep.ensures
+    entered_new _ _ _ _ _ _ _ _ _ c.cached-link.ensures c.if-link-ne0.false _ _ _ _ _ c.settle_next-settled.ensures _ c.in-At.is _ _ _ c.keep.ensures
 
 pub returns-in-NoRoom : goal.returns-in-NoRoom
 returns-in-NoRoom c = search (entered_none, rules)

@@ -7,10 +7,7 @@ use Rattle.entering.proofs.held.settle_in.Goals as goal
 
 pub advance-counts-requires : goal.advance-counts-requires
 advance-counts-requires c =
-    let top = c in
-    let list = top in
-    let s = list in
-    record { sheet_value = s.requires.sheet_value.0; subject_value = s.requires.row_value; parent_value = (rises_read _ _ list.list_of.ensures s.requires.sheet_value.1.parent_up, rises_read _ _ top.list_of-2.ensures s.requires.sheet_value.1.root_up); room = room_read _ _ _ _ _ _ _ _ list.list_of.ensures top.list_of-2.ensures s.requires.room }
+    record { sheet_value = c.requires.sheet_value.0; subject_value = c.requires.row_value; parent_value = (rises_read _ _ c.list_of.ensures c.requires.sheet_value.1.parent_up, rises_read _ _ c.list_of-2.ensures c.requires.sheet_value.1.root_up); room = room_read _ _ _ _ _ _ _ _ c.list_of.ensures c.list_of-2.ensures c.requires.room }
 
 pub slice_bounds-settle-end : goal.slice_bounds-settle-end
 slice_bounds-settle-end c = search (held_within, rules)
@@ -26,8 +23,4 @@ slice_bounds-settle-end-4 c = sym (length-take-le _ _ (held_within c.advance-cou
 
 pub returns : goal.returns
 returns c =
-    let s = c in
-    let a = s in
-    let top = a in
-    let list = top in
-    settled_next a.advance-counts.ensures _ _ _ _ _ _ _ _ _ _ list.requires.sheet_value.1 list.list_of.ensures top.list_of-2.ensures s.settle.ensures
+    settled_next c.advance-counts.ensures _ _ _ _ _ _ _ _ _ _ c.requires.sheet_value.1 c.list_of.ensures c.list_of-2.ensures c.settle.ensures

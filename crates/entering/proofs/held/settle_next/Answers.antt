@@ -4,9 +4,8 @@ use Rattle.entering.proofs.held.settle_next.Goals as goal
 
 pub settle_in-requires : goal.settle_in-requires
 settle_in-requires c =
-    let t = c in
-    let q = t.requires in
-    record { sheet_value = q.sheet_value; row_value = q.row_value; room = room_small _ _ _ _ _ _ (few_both _ _ _ t.are_few.ensures t.if-are_few.true) (search rules) (search rules) }
+    let q = c.requires in
+    record { sheet_value = q.sheet_value; row_value = q.row_value; room = room_small _ _ _ _ _ _ (few_both _ _ _ c.are_few.ensures c.if-are_few.true) (search rules) (search rules) }
 
 pub settle_in-requires-2 : goal.settle_in-requires-2
 settle_in-requires-2 c = let q = c.requires in record { sheet_value = q.sheet_value; row_value = q.row_value; room = room_large _ _ _ _ _ _ q.sheet_value.0 (search rules) (search rules) }

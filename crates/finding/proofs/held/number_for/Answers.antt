@@ -1,4 +1,3 @@
-use Prim.Native.Nat.{◌-◌}
 use borrow.Author.Rules.{rules}
 use Rattle.finding.proofs.Finding.{seek_start, seek_hit, seek_more, seek_end}
 use Rattle.finding.proofs.held.number_for.Goals as goal

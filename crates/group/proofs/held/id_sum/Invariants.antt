@@ -1,5 +1,4 @@
 use Prim.Native.Nat.{◌-◌}
-use borrow.Author.Rules.{rules}
 use Rattle.group.proofs.Writing.{Counting}
 use Rattle.group.proofs.held.id_sum.Given as goal
 

@@ -1,3 +1,4 @@
+use borrow.Author.Rules.{rules}
 use Rattle.group.proofs.Writing.{group_asks, lists_long, counts_ask, group_put}
 use Rattle.group.proofs.held.put_group.Goals as goal
 
@@ -8,4 +9,4 @@ pub group_counts-requires : goal.group_counts-requires
 group_counts-requires c = counts_ask _ _ _ _ _ _ _ _ _ c.requires _ c.counts-c.ensures
 
 pub returns : goal.returns
-returns c = group_put _ _ _ _ _ _ _ _ _ c.requires _ c.counts-c.ensures _ _ _ c.put_parts.ensures c.group_counts.ensures c.put_counts.ensures
+returns c = search (group_put, c.requires, c.counts-c.ensures, c.put_parts.ensures, c.group_counts.ensures, c.put_counts.ensures)

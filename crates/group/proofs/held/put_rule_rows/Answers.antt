@@ -1,4 +1,3 @@
-use Prim.Native.Nat.{◌-◌}
 use borrow.Author.Rules.{rules}
 use Rattle.group.proofs.Writing.{row_start, row_steps_fit, row_entries_fit, row_more, row_end}
 use Rattle.group.proofs.held.put_rule_rows.Goals as goal

@@ -1,5 +1,4 @@
 use Prim.Native.Nat.{◌-◌}
-use borrow.Author.Rules.{rules}
 use Rattle.group.proofs.Writing.{Rowing}
 use Rattle.group.proofs.held.put_rule_rows.Given as goal
 

@@ -1,4 +1,3 @@
-use Prim.Native.Nat.{◌-◌}
 use borrow.Author.Rules.{rules}
 use Rattle.group.proofs.Writing.{step_start, step_code, step_row_lem, step_more, step_end}
 use Rattle.group.proofs.held.put_selector.Goals as goal

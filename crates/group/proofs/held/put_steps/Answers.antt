@@ -1,4 +1,3 @@
-use Prim.Native.Nat.{◌-◌}
 use native.Mathlib.Omega.{arith}
 use borrow.Author.Rules.{rules}
 use Rattle.group.proofs.Writing.{rule_start, count_few, ties_few, selector_rows, selector_codes, rule_more, rule_end}

@@ -1,5 +1,4 @@
 use Prim.Native.Nat.{◌-◌}
-use borrow.Author.Rules.{rules}
 use Rattle.group.proofs.Writing.{Ruling}
 use Rattle.group.proofs.held.put_steps.Given as goal
 

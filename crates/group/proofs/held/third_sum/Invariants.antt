@@ -1,5 +1,4 @@
 use Prim.Native.Nat.{◌-◌}
-use borrow.Author.Rules.{rules}
 use Rattle.group.proofs.Writing.{Thirds}
 use Rattle.group.proofs.held.third_sum.Given as goal
 

@@ -1,11 +1,6 @@
 use borrow.Author.Rules.{rules}
 use Rattle.given.specs.Pushing.{cascade_verdict}
 use Rattle.joining.proofs.Refusing.{refusals}
-use Rattle.joining.proofs.cascades.cascade_verdict.Reads as reads
-use Rattle.joining.proofs.cascades.cascade_verdict.Lts as lts
-use Rattle.joining.proofs.cascades.indexes_over.Reads as indexes-over-reads
-use Rattle.joining.proofs.cascades.sums_over.Reads as sums-over-reads
-use Rattle.sheet.proofs.shape.is_sheet.Reads as is-sheet-reads
 use Rattle.joining.proofs.cascades.cascade_verdict.Goals as goal
 
 -- src/cascades.rt:99:9

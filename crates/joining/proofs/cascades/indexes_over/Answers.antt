@@ -1,11 +1,5 @@
 use borrow.Author.Rules.{rules}
 use Rattle.joining.proofs.Largest.{over_none, over_some}
-use Rattle.joining.proofs.cascades.indexes_over.Reads as reads
-use Rattle.joining.proofs.cascades.indexes_over.Lts as lts
-use Rattle.joining.proofs.cascades.is_bare.Reads as is-bare-reads
-use Rattle.joining.proofs.cascades.largest_index.Reads as largest-index-reads
-use Rattle.lent.proofs.words.wide.Reads as wide-reads
-use Rattle.lent.proofs.words.word.Reads as word-reads
 use Rattle.joining.proofs.cascades.indexes_over.Goals as goal
 
 -- src/cascades.rt:89:8

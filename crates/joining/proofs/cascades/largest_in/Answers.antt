@@ -1,6 +1,4 @@
 use borrow.Author.Rules.{rules}
-use mathlib.Core.Logic.{inl, inr}
-use Prim.Native.Nat.{◌-◌}
 use Rattle.joining.proofs.Largest.{most_start, most_next, most_kept, most_end}
 use Rattle.joining.proofs.cascades.largest_in.Goals as goal
 use Rattle.joining.proofs.cascades.largest_in.Goals.{then-most-x, else-most-x}

@@ -1,9 +1,5 @@
 use borrow.Author.Rules.{rules}
 use Rattle.joining.proofs.Largest.{index_right, index_left}
-use Rattle.joining.proofs.cascades.largest_index.Reads as reads
-use Rattle.joining.proofs.cascades.largest_index.Lts as lts
-use Rattle.joining.proofs.cascades.largest_in.Reads as largest-in-reads
-use Rattle.lent.proofs.words.word.Reads as word-reads
 use Rattle.joining.proofs.cascades.largest_index.Goals as goal
 
 -- src/cascades.rt:68:39

@@ -1,9 +1,5 @@
 use borrow.Author.Rules.{rules}
 use Rattle.joining.proofs.Sums.{sum_wide}
-use Rattle.joining.proofs.cascades.sum_over.Reads as reads
-use Rattle.joining.proofs.cascades.sum_over.Lts as lts
-use Rattle.lent.proofs.words.wide.Reads as wide-reads
-use Rattle.lent.proofs.words.word.Reads as word-reads
 use Rattle.joining.proofs.cascades.sum_over.Goals as goal
 
 -- src/cascades.rt:22:18

@@ -2,10 +2,6 @@ use borrow.Author.Rules.{rules}
 use native.Mathlib.Omega.{arith}
 use Rattle.given.specs.Pushing.{sums_over}
 use Rattle.joining.proofs.Sums.{sums}
-use Rattle.joining.proofs.cascades.sums_over.Reads as reads
-use Rattle.joining.proofs.cascades.sums_over.Lts as lts
-use Rattle.joining.proofs.cascades.sum_over.Reads as sum-over-reads
-use Rattle.given.proofs.held.all_entries.Reads as all-entries-reads
 use Rattle.joining.proofs.cascades.sums_over.Goals as goal
 
 -- src/cascades.rt:28:8
@@ -42,9 +38,8 @@ returns-then-sum_over-3 c = search (sums, rules) depth 12
 
 pub overflow_add-result : goal.overflow_add-result
 overflow_add-result c =
-    let other = c in
-    let a = other.shared_slice_known-1.given in
-    let b = other.shared_slice_known-2-1.given in
+    let a = c.shared_slice_known-1.given in
+    let b = c.shared_slice_known-2-1.given in
     omega (arith, a 3, a 5, b 3, b 5)
 
 pub returns : goal.returns

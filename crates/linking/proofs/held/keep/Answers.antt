@@ -10,9 +10,7 @@ hook_last-requires c = search (number_left, link_same, rules)
 
 pub hook_first-requires : goal.hook_first-requires
 hook_first-requires c =
-    let d = c in
-    let f = d in
-    (search (number_left, rules), link_same _ _ _ _ _ _ f.word-n.ensures f.cell-first.ensures d.leads.ensures d.if-leads.false)
+    (search (number_left, rules), link_same _ _ _ _ _ _ c.word-n.ensures c.cell-first.ensures c.leads.ensures c.if-leads.false)
 
 pub returns-then-leads : goal.returns-then-leads
 returns-then-leads c = search (is_kept_last, rules)

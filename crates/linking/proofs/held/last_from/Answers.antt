@@ -12,8 +12,7 @@ loop-left-init c = search (follow_start, rules)
 
 pub returns-then-not-leads : goal.returns-then-not-leads
 returns-then-not-leads c =
-    let d = c in
-    follow_here d.loop-left.invariant _ _ d.cell-next.ensures c.leads.ensures d.loop-left-test.true (ap not c.if-not-leads.true)
+    follow_here c.loop-left.invariant _ _ c.cell-next.ensures c.leads.ensures c.loop-left-test.true (ap not c.if-not-leads.true)
 
 pub loop-left-preserved : goal.loop-left-preserved
 loop-left-preserved c = search (follow_next, rules)

@@ -9,8 +9,7 @@ returns-then-v-ne0 c = search (listing_refused, rules)
 
 pub winning_entry-found-requires : goal.winning_entry-found-requires
 winning_entry-found-requires c =
-    let d = c in
-    let asked = state_passed _ _ _ _ _ _ _ _ _ d.state_verdict-v.ensures d.if-v-ne0.false in record { sheet_value = asked.0; number_bound = asked.1 }
+    let asked = state_passed _ _ _ _ _ _ _ _ _ c.state_verdict-v.ensures c.if-v-ne0.false in record { sheet_value = asked.0; number_bound = asked.1 }
 
 pub kind_of-requires : goal.kind_of-requires
 kind_of-requires c = search (kind_fits, rules)

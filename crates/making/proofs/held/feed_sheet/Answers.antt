@@ -18,10 +18,8 @@ item_at-item-requires c =
 
 pub take-taken-requires : goal.take-taken-requires
 take-taken-requires c =
-    let n = c in
-    let a = n in
-    let o = a.open-m.ensures _ a.requires in
-    let b = turn_before o n.loop-found.invariant.0 n.loop-found-test.true in
+    let o = c.open-m.ensures _ c.requires in
+    let b = turn_before o c.loop-found.invariant.0 c.loop-found-test.true in
     record { sheet_value = b.shape; sound = b.sound; narrow = c.item_at-item.ensures.narrow }
 
 pub go_on-m-requires : goal.go_on-m-requires
@@ -31,22 +29,14 @@ go_on-m-requires c =
 
 pub loop-found-smaller : goal.loop-found-smaller
 loop-found-smaller c =
-    let t = c in
-    let r = t in
-    let n = r in
-    let a = n in
-    let o = a.open-m.ensures _ a.requires in
-    turn_falls o n.loop-found.invariant.0 n.loop-found-test.true r.item_at-item.ensures t.take-taken.ensures c.go_on-m.ensures
+    let o = c.open-m.ensures _ c.requires in
+    turn_falls o c.loop-found.invariant.0 c.loop-found-test.true c.item_at-item.ensures c.take-taken.ensures c.go_on-m.ensures
 
 pub loop-found-preserved : goal.loop-found-preserved
 loop-found-preserved c =
-    let t = c in
-    let r = t in
-    let n = r in
-    let a = n in
-    let o = a.open-m.ensures _ a.requires in
-    let i = n.loop-found.invariant in (
-      turn_one o i.0 n.loop-found-test.true r.item_at-item.ensures t.take-taken.ensures c.go_on-m.ensures c.ahead-found-in-loop-found.ensures,
+    let o = c.open-m.ensures _ c.requires in
+    let i = c.loop-found.invariant in (
+      turn_one o i.0 c.loop-found-test.true c.item_at-item.ensures c.take-taken.ensures c.go_on-m.ensures c.ahead-found-in-loop-found.ensures,
       c.sheet-in-loop-found-1.given ∙ i.1,
       c.rules-1.given ∙ i.2,
       c.steps-1.given ∙ i.3,
@@ -58,7 +48,5 @@ loop-found-preserved c =
 
 pub returns : goal.returns
 returns c =
-    let l = c in
-    let a = l in
-    let o = a.open-m.ensures _ a.requires in
-    turns_end o l.loop-found.invariant.0 c.loop-found-test.false c.end.ensures
+    let o = c.open-m.ensures _ c.requires in
+    turns_end o c.loop-found.invariant.0 c.loop-found-test.false c.end.ensures

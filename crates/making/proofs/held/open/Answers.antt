@@ -22,18 +22,14 @@ record_in-item-requires c = sym c.is_whole.ensures ∙ not-false _ (ap not c.if-
 
 pub size_of-requires : goal.size_of-requires
 size_of-requires c =
-    let d = c in
-    item_known _ _ d.record_in-item.ensures.0 (sym d.is_whole.ensures ∙ not-false _ (ap not d.if-not-is_whole.false))
+    item_known _ _ c.record_in-item.ensures.0 (sym c.is_whole.ensures ∙ not-false _ (ap not c.if-not-is_whole.false))
 
 pub past-requires : goal.past-requires
 past-requires c =
-    let d = c in
-    let room = d.well_formed.0 in
-    item_room _ _ d.record_in-item.ensures.0 (sym d.is_whole.ensures ∙ not-false _ (ap not d.if-not-is_whole.false)) _ _ 0 c.size_of.ensures.0 c.begin-begun.ensures.0 (omega arith)
+    let room = c.well_formed.0 in
+    item_room _ _ c.record_in-item.ensures.0 (sym c.is_whole.ensures ∙ not-false _ (ap not c.if-not-is_whole.false)) _ _ 0 c.size_of.ensures.0 c.begin-begun.ensures.0 (omega arith)
 
 pub returns : goal.returns
 returns c =
     λ g b.
-    let d = c in
-    let e = d in
-    open_first _ _ _ g b _ e.is_whole.ensures (ap not d.if-not-is_whole.false) _ d.record_in-item.ensures.0 _ _ (c.begin-begun.ensures.1 g (moved_before _ 0 b) e.if-m-ne0.false) _ c.size_of.ensures.0 _ c.past.ensures
+    open_first _ _ _ g b _ c.is_whole.ensures (ap not c.if-not-is_whole.false) _ c.record_in-item.ensures.0 _ _ (c.begin-begun.ensures.1 g (moved_before _ 0 b) c.if-m-ne0.false) _ c.size_of.ensures.0 _ c.past.ensures

@@ -15,11 +15,7 @@ slice_bounds-result-start-2 c = search (part_starts, rules)
 
 pub slice_bounds-result-end-2 : goal.slice_bounds-result-end-2
 slice_bounds-result-end-2 c =
-    let d = c in
-    part_ends _ _ _ _ _ d.state_verdict-v.ensures d.if-v-ne0.false _ _ _ _ c.wide-from.ensures d.start_of.ensures c.wide-to.ensures c.cell.ensures
+    part_ends _ _ _ _ _ c.state_verdict-v.ensures c.if-v-ne0.false _ _ _ _ c.wide-from.ensures c.start_of.ensures c.wide-to.ensures c.cell.ensures
 
 pub returns : goal.returns
-returns c =
-    let b = c in
-    let d = b in
-    rules_found _ _ _ _ _ d.state_verdict-v.ensures d.if-v-ne0.false _ _ _ _ b.wide-from.ensures d.start_of.ensures b.wide-to.ensures b.cell.ensures _ _ refl refl (omega arith)
+returns c = rules_found _ _ _ _ _ c.state_verdict-v.ensures c.if-v-ne0.false _ _ _ _ c.wide-from.ensures c.start_of.ensures c.wide-to.ensures c.cell.ensures _ _ (search rules) (search rules) (omega arith)

@@ -6,28 +6,20 @@ use Rattle.merge.proofs.held.put_cascade.Goals as goal
 
 pub put_rules-requires : goal.put_rules-requires
 put_rules-requires c =
-    let k = c in
-    let a = cascade_accepted _ _ k.requires in
-    (counts_within k.counts-c.ensures (shaped _ a.shape), a.other_shape)
+    let a = cascade_accepted _ _ c.requires in
+    (counts_within c.counts-c.ensures (shaped _ a.shape), a.other_shape)
 
 pub put_styles-requires : goal.put_styles-requires
 put_styles-requires c =
-    let k = c in
-    let a = cascade_accepted _ _ k.requires in
-    (counts_within k.counts-c.ensures (shaped _ a.shape), a.other_shape)
+    let a = cascade_accepted _ _ c.requires in
+    (counts_within c.counts-c.ensures (shaped _ a.shape), a.other_shape)
 
 pub cascade_counts-requires : goal.cascade_counts-requires
 cascade_counts-requires c =
-    let k = c in
-    let a = cascade_accepted _ _ k.requires in
-    (counts_within k.counts-c.ensures (shaped _ a.shape), a.other_shape)
+    let a = cascade_accepted _ _ c.requires in
+    (counts_within c.counts-c.ensures (shaped _ a.shape), a.other_shape)
 
 pub returns : goal.returns
 returns c =
-    let z = c in
-    let y = z in
-    let x = y in
-    let k = x in
-    let start = k in
-    let a = cascade_accepted _ _ start.requires in
-    cascade_put start.args.sheet.now _ _ _ _ _ _ a.other_shape k.counts-c.ensures x.put_rules.ensures y.put_styles.ensures z.cascade_counts.ensures z.put_counts.ensures
+    let a = cascade_accepted _ _ c.requires in
+    cascade_put c.args.sheet.now _ _ _ _ _ _ a.other_shape c.counts-c.ensures c.put_rules.ensures c.put_styles.ensures c.cascade_counts.ensures c.put_counts.ensures

@@ -1,4 +1,3 @@
-use Prim.Native.Nat.{◌-◌}
 use Rattle.merge.proofs.Storing.{lay_none, rule_next, rules_end}
 use borrow.Author.Rules.{rules}
 use Rattle.merge.proofs.held.put_held_rules.Goals as goal

@@ -2,7 +2,6 @@ use Prim.Native.Nat.{◌+◌, ◌-◌, ◌*◌}
 use Rattle.sheet.specs.Layout.{RULE-ORIGIN, RULE-WORDS}
 use Rattle.given.specs.Leaves.{held_row}
 use Rattle.merge.proofs.Storing.{Laying}
-use borrow.Author.Rules.{rules}
 use Rattle.merge.proofs.held.put_held_rules.Given as goal
 
 abbrev pub invariant-loop-k : goal.invariant-loop-k

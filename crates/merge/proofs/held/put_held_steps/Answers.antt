@@ -1,5 +1,3 @@
-use Prim.Native.Nat.{◌-◌}
-use Rattle.sheet.specs.Layout.{step_place}
 use Rattle.merge.proofs.Storing.{lay_none, step_small, step_asked, step_next, steps_end}
 use borrow.Author.Rules.{rules}
 use Rattle.merge.proofs.held.put_held_steps.Goals as goal
@@ -9,23 +7,16 @@ loop-j-init c = lay_none
 
 pub overflow_add-s : goal.overflow_add-s
 overflow_add-s c =
-    let l = c in
-    let start = l in
-    let h = step_small _ _ _ start.requires.2 start.requires.1 l.loop-j-test.true in
+    let h = step_small _ _ _ c.requires.2 c.requires.1 c.loop-j-test.true in
     search rules
 
 pub put_step-requires : goal.put_step-requires
 put_step-requires c =
-    let l = c in
-    let start = l in
-    step_asked _ _ _ start.requires.2 start.requires.1 l.loop-j-test.true _ _ c.cell-code.ensures c.step_place.ensures
+    step_asked _ _ _ c.requires.2 c.requires.1 c.loop-j-test.true _ _ c.cell-code.ensures c.step_place.ensures
 
 pub loop-j-preserved : goal.loop-j-preserved
 loop-j-preserved c =
-    let p = c in
-    let l = p in
-    let start = l in
-    step_next _ _ _ start.requires.2 start.requires.1 l.loop-j-test.true _ _ _ _ _ _ l.loop-j.invariant p.cell-code.ensures p.step_place.ensures p.put_step.ensures
+    step_next _ _ _ c.requires.2 c.requires.1 c.loop-j-test.true _ _ _ _ _ _ c.loop-j.invariant c.cell-code.ensures c.step_place.ensures c.put_step.ensures
 
 pub returns : goal.returns
 returns c = search (steps_end, rules)

@@ -6,8 +6,4 @@ put_pool-requires c = pool_asked _ _ c.requires.1 c.word.ensures
 
 pub returns : goal.returns
 returns c =
-    let r = c in
-    let s = r in
-    let p = s in
-    let start = p in
-    rules_laid start.args.c _ start.args.sheet.now _ _ _ start.requires.1 _ _ p.word.ensures p.put_pool.ensures s.word-2.ensures s.put_held_steps.ensures r.put_held_rules.ensures
+    rules_laid c.args.c _ c.args.sheet.now _ _ _ c.requires.1 _ _ c.word.ensures c.put_pool.ensures c.word-2.ensures c.put_held_steps.ensures c.put_held_rules.ensures

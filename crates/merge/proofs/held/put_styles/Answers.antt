@@ -6,7 +6,4 @@ put_pool-requires c = style_pool_asked _ _ c.requires.1 c.word.ensures
 
 pub returns : goal.returns
 returns c =
-    let r = c in
-    let p = r in
-    let start = p in
-    styles_laid start.args.c _ start.args.sheet.now _ _ _ start.requires.1 p.word.ensures p.put_pool.ensures r.put_held_styles.ensures
+    styles_laid c.args.c _ c.args.sheet.now _ _ _ c.requires.1 c.word.ensures c.put_pool.ensures c.put_held_styles.ensures

@@ -15,10 +15,9 @@ width-c-requires c = search (whole_kind, rules)
 
 pub returns : goal.returns
 returns c =
-    let p = c in
     let e =
     record_is
-    p.args.bytes.now
+    c.args.bytes.now
     _
     _
     _
@@ -33,4 +32,4 @@ returns c =
     c.number-first.ensures
     c.number-second.ensures
     c.number-third.ensures in
-    (e, read_narrow p.args.bytes.now (λ i. (p.shared_slice_known-1.given i).fits) _ e)
+    (e, read_narrow c.args.bytes.now (λ i. (c.shared_slice_known-1.given i).fits) _ e)

@@ -7,8 +7,7 @@ use Rattle.replay.proofs.sets.set_of.Goals as goal
 
 pub from_ids-requires : goal.from_ids-requires
 from_ids-requires c =
-    let start = c in
-    let few = part_few start.args.body.now _ start.args.from start.args.to (search rules) c.part.ensures in
+    let few = part_few c.args.body.now _ c.args.from c.args.to (search rules) c.part.ensures in
     omega (arith, few)
 
 pub returns : goal.returns

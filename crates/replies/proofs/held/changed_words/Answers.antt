@@ -17,8 +17,6 @@ slice_bounds-widen_into-end c = search (held_part, rules)
 
 pub returns : goal.returns
 returns c =
-    let x = c in
-    let p = x in
-    let g = p.requires in
-    let u = p.changed_properties-n.ensures in
-    (u.count, words_few g.covered g.bound.0 g.bound.1 u, words_are g.covered g.bound.0 g.bound.1 u _ g.bound.2 _ x.widen_into.ensures)
+    let g = c.requires in
+    let u = c.changed_properties-n.ensures in
+    (u.count, words_few g.covered g.bound.0 g.bound.1 u, words_are g.covered g.bound.0 g.bound.1 u _ g.bound.2 _ c.widen_into.ensures)

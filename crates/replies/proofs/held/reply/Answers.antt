@@ -5,24 +5,12 @@ use Rattle.replies.proofs.held.reply.Goals as goal
 
 pub take_enter-entered-requires : goal.take_enter-entered-requires
 take_enter-entered-requires c =
-    let i = c in
-    let r = i in
-    let s = r in
-    record { covered = s.requires.ready.covered; parent_bound = enter_ready _ _ _ _ _ _ _ s.requires.ready _ _ r.subject_row-row.ensures _ _ i.take_items-fault.ensures }
+    record { covered = c.requires.ready.covered; parent_bound = enter_ready _ _ _ _ _ _ _ c.requires.ready _ _ c.subject_row-row.ensures _ _ c.take_items-fault.ensures }
 
 pub tell-used-requires : goal.tell-used-requires
 tell-used-requires c =
-    let x = c in
-    let i = x in
-    let r = i in
-    let s = r in
-    record { tellable = tell_ready _ _ _ _ _ _ _ s.requires.ready _ _ r.subject_row-row.ensures _ _ i.take_items-fault.ensures _ _ x.take_enter-entered.ensures s.requires.narrow; room = s.requires.room }
+    record { tellable = tell_ready _ _ _ _ _ _ _ c.requires.ready _ _ c.subject_row-row.ensures _ _ c.take_items-fault.ensures _ _ c.take_enter-entered.ensures c.requires.narrow; room = c.requires.room }
 
 pub returns : goal.returns
 returns c =
-    let l = c in
-    let x = l in
-    let i = x in
-    let r = i in
-    let s = r in
-    replies_told _ _ _ _ _ _ _ s.requires.ready _ _ r.subject_row-row.ensures _ _ i.take_items-fault.ensures _ _ x.take_enter-entered.ensures _ _ _ _ _ l.tell-used.ensures
+    replies_told _ _ _ _ _ _ _ c.requires.ready _ _ c.subject_row-row.ensures _ _ c.take_items-fault.ensures _ _ c.take_enter-entered.ensures _ _ _ _ _ c.tell-used.ensures

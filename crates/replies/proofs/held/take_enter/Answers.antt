@@ -10,14 +10,8 @@ returns-then-not-enters c = steps_none _ _ _ _ _ _ _ c.enters.ensures (ap not c.
 
 pub enter_subject-requires : goal.enter_subject-requires
 enter_subject-requires c =
-    let i = c in
-    let e = i in
-    let s = e in
-    let asked = enter_fine _ _ _ _ _ _ e.enters.ensures (ap not i.if-not-enters.false) s.requires.covered s.requires.parent_bound in record { sheet_value = asked.0; row_value = asked.1 }
+    let asked = enter_fine _ _ _ _ _ _ c.enters.ensures (ap not c.if-not-enters.false) c.requires.covered c.requires.parent_bound in record { sheet_value = asked.0; row_value = asked.1 }
 
 pub returns : goal.returns
 returns c =
-    let x = c in
-    let i = x in
-    let e = i in
-    steps_enter _ _ _ _ _ _ _ e.enters.ensures (ap not i.if-not-enters.false) _ _ x.enter_subject.ensures _ c.entered.ensures
+    steps_enter _ _ _ _ _ _ _ c.enters.ensures (ap not c.if-not-enters.false) _ _ c.enter_subject.ensures _ c.entered.ensures

@@ -15,6 +15,4 @@ put_item-requires c = search (item_fits, rules)
 
 pub returns : goal.returns
 returns c =
-    let p = c in
-    let k = p in
-    item_put _ _ _ k.if-which-gt3.false _ k.item_over.ensures k.if-item_over.false _ p.put_item.ensures
+    item_put _ _ _ c.if-which-gt3.false _ c.item_over.ensures c.if-item_over.false _ c.put_item.ensures

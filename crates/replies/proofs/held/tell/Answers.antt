@@ -13,13 +13,11 @@ state-requires c = search (told_few, rules)
 
 pub tell_changed-requires : goal.tell_changed-requires
 tell_changed-requires c =
-    let s = c in
-    record { covered = told_changing s.requires.tellable _ _ refl refl (search rules) (search rules); room = s.requires.room }
+    record { covered = told_changing c.requires.tellable _ _ refl refl (search rules) (search rules); room = c.requires.room }
 
 pub tell_winner-requires : goal.tell_winner-requires
 tell_winner-requires c =
-    let s = c in
-    record { covered = told_winning s.requires.tellable _ _ refl refl (search rules) (search rules); room = s.requires.room }
+    record { covered = told_winning c.requires.tellable _ _ refl refl (search rules) (search rules); room = c.requires.room }
 
 pub returns-in-10 : goal.returns-in-10
 returns-in-10 c = search (tells_entered, rules)

@@ -1,4 +1,3 @@
-use Prim.Native.Nat.{◌-◌}
 use borrow.Author.Rules.{rules}
 use Rattle.selector.proofs.RowLaws.{looking}
 use Rattle.selector.proofs.held.all_in.Goals as goal

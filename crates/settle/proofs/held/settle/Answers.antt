@@ -13,7 +13,7 @@ pub returns-then-not-room_for : goal.returns-then-not-room_for
 returns-then-not-room_for c = search (settle_full, rules)
 
 pub grow-requires : goal.grow-requires
-grow-requires c = let d = c in sym d.room_for.ensures ∙ not-false _ (ap not d.if-not-room_for.false)
+grow-requires c = sym c.room_for.ensures ∙ not-false _ (ap not c.if-not-room_for.false)
 
 pub returns : goal.returns
 returns c = search (settle_new, rules)

@@ -1,4 +1,3 @@
-use Prim.Native.Nat.{◌-◌}
 use borrow.Author.Rules.{rules}
 use Rattle.sheet.proofs.ShapeLaws.{adding}
 use Rattle.sheet.proofs.shape.sum_ids.Goals as goal

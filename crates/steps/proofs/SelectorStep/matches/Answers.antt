@@ -1,7 +1,7 @@
 use mathlib.Core.Path.{sym, ◌∙◌}
 use borrow.Author.Rules.{rules}
 use borrow.Author.Tests.{not-true, not-false}
-use Rattle.steps.proofs.Answers.{tested, step_over, subject_over, subject_unsorted, step_yes, step_no}
+use Rattle.steps.proofs.Answers.{step_over, subject_over, subject_unsorted, step_yes, step_no}
 use Rattle.steps.proofs.SelectorStep.matches.Goals as goal
 
 pub returns-then-not-row_fits : goal.returns-then-not-row_fits

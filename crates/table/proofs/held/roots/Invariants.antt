@@ -1,5 +1,4 @@
 use Prim.Native.Nat.{◌-◌}
-use borrow.Author.Rules.{rules}
 use Rattle.table.proofs.Roots.{Rooting}
 use Rattle.table.proofs.held.roots.Given as goal
 

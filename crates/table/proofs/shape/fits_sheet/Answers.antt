@@ -21,4 +21,4 @@ returns-then-not-transitions_fine c = search (c.states_fine.ensures, c.numbers_e
 
 pub returns : goal.returns
 unfolding table_shape
-returns c = let t = c in search (t.states_fine.ensures, t.numbers_exist.ensures, c.root_built.ensures, tests, rules)
+returns c = search (c.states_fine.ensures, c.numbers_exist.ensures, c.root_built.ensures, tests, rules)

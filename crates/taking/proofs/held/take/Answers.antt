@@ -12,5 +12,4 @@ returns-then-item-eq8 c = takes_end _ _ _ _ _ _ c.if-item-eq8.true c.take_end.en
 
 pub returns : goal.returns
 returns c =
-    let start = c in
-    takes_added _ _ _ _ _ _ c.if-item-eq2.false c.if-item-eq3.false c.if-item-eq8.false start.requires.sheet_value c.take_added.ensures
+    takes_added _ _ _ _ _ _ c.if-item-eq2.false c.if-item-eq3.false c.if-item-eq8.false c.requires.sheet_value c.take_added.ensures

@@ -12,13 +12,11 @@ returns-then-item-eq6 c = adds_requirement _ _ _ _ _ _ c.if-item-eq6.true c.take
 
 pub take_entry-requires : goal.take_entry-requires
 take_entry-requires c =
-    let start = c in
-    record { sheet_value = start.requires.sheet_value; sound = start.requires.sound; property_bound = start.requires.narrow.entry c.if-item-eq7.true }
+    record { sheet_value = c.requires.sheet_value; sound = c.requires.sound; property_bound = c.requires.narrow.entry c.if-item-eq7.true }
 
 pub returns-then-item-eq7 : goal.returns-then-item-eq7
 returns-then-item-eq7 c = adds_entry _ _ _ _ _ _ c.if-item-eq7.true c.take_entry.ensures
 
 pub returns : goal.returns
 returns c =
-    let start = c in
-    adds_misplaced _ _ _ _ _ start.requires.sound c.if-item-eq4.false c.if-item-eq5.false c.if-item-eq6.false c.if-item-eq7.false c.refused.ensures
+    adds_misplaced _ _ _ _ _ c.requires.sound c.if-item-eq4.false c.if-item-eq5.false c.if-item-eq6.false c.if-item-eq7.false c.refused.ensures

@@ -11,44 +11,33 @@ loop-found-init c =
 
 pub record_in-item-requires : goal.record_in-item-requires
 record_in-item-requires c =
-    let n = c in
-    let i = n.loop-found.invariant in
-    let t = i.1.takes n.loop-found-test.true in
+    let i = c.loop-found.invariant in
+    let t = i.1.takes c.loop-found-test.true in
     next_whole t.0 t.1
 
 pub reply-answer-requires : goal.reply-answer-requires
 reply-answer-requires c =
-    let r = c in
-    let n = r in
-    let i = n.loop-found.invariant in
-    let t = i.1.takes n.loop-found-test.true in
-    record { ready = i.0.far.ready; room = going_room i.0 t.0; narrow = r.record_in-item.ensures.1 }
+    let i = c.loop-found.invariant in
+    let t = i.1.takes c.loop-found-test.true in
+    record { ready = i.0.far.ready; room = going_room i.0 t.0; narrow = c.record_in-item.ensures.1 }
 
 pub past_reply-w-requires : goal.past_reply-w-requires
 past_reply-w-requires c =
-    let r = c in
-    let n = r in
-    let i = n.loop-found.invariant in
-    let t = i.1.takes n.loop-found-test.true in
-    next_past t.0 t.1 r.record_in-item.ensures.0 n.well_formed.0.0
+    let i = c.loop-found.invariant in
+    let t = i.1.takes c.loop-found-test.true in
+    next_past t.0 t.1 c.record_in-item.ensures.0 c.well_formed.0.0
 
 pub loop-found-smaller : goal.loop-found-smaller
 loop-found-smaller c =
-    let y = c in
-    let r = y in
-    let n = r in
-    let i = n.loop-found.invariant in
-    let t = i.1.takes n.loop-found-test.true in
-    step_less i.0 t.0 t.1 r.record_in-item.ensures.0 y.reply-answer.ensures c.past_reply-w.ensures
+    let i = c.loop-found.invariant in
+    let t = i.1.takes c.loop-found-test.true in
+    step_less i.0 t.0 t.1 c.record_in-item.ensures.0 c.reply-answer.ensures c.past_reply-w.ensures
 
 pub loop-found-preserved : goal.loop-found-preserved
 loop-found-preserved c =
-    let y = c in
-    let r = y in
-    let n = r in
-    let i = n.loop-found.invariant in
-    let t = i.1.takes n.loop-found-test.true in (
-      going_step i.0 t.0 t.1 r.record_in-item.ensures.0 y.reply-answer.ensures c.past_reply-w.ensures,
+    let i = c.loop-found.invariant in
+    let t = i.1.takes c.loop-found-test.true in (
+      going_step i.0 t.0 t.1 c.record_in-item.ensures.0 c.reply-answer.ensures c.past_reply-w.ensures,
       c.ahead-found-in-loop-found.ensures,
       c.head-1.given ∙ i.2,
       c.states-1.given ∙ i.3,

@@ -1,4 +1,3 @@
-use Prim.Native.Nat.{◌-◌}
 use borrow.Author.Rules.{rules}
 use Rattle.weighed.proofs.Sums.{sums}
 use Rattle.weighed.proofs.held.sum.Goals as goal

@@ -1,4 +1,3 @@
-use Prim.Native.Nat.{◌-◌}
 use borrow.Author.Rules.{rules}
 use Rattle.selector.proofs.WeighLaws.{sum_start, sum_next, sum_end, row_at_lem}
 use Rattle.weight.proofs.held.sum.Goals as goal

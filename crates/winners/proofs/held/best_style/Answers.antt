@@ -1,4 +1,3 @@
-use Prim.Native.Nat.{◌-◌}
 use borrow.Author.Rules.{rules}
 use Rattle.winners.proofs.Turns.{styled}
 use Rattle.winners.proofs.held.best_style.Goals as goal

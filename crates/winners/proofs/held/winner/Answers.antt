@@ -1,4 +1,3 @@
-use Prim.Native.Nat.{◌-◌}
 use borrow.Author.Rules.{rules}
 use Rattle.winners.proofs.Turns.{ruled}
 use Rattle.winners.proofs.held.winner.Goals as goal

@@ -1,6 +1,5 @@
 use Prim.Native.Nat.{◌-◌}
 use lib.ListN.{length}
-use borrow.Author.Rules.{rules}
 use Rattle.winners.proofs.Turns.{Ruled}
 use Rattle.winners.proofs.held.winner.Given as goal
 
