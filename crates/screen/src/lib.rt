@@ -9,6 +9,7 @@ pub mod held;
 
 // Where bytes come from and go to: standard input and output, by the numbers that each program is started with.
 pub const STDIN_FILENO: i32 = 0;
+
 pub const STDOUT_FILENO: i32 = 1;
 
 // A label, and a number.

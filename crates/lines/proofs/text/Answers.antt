@@ -1,4 +1,3 @@
-use Prim.Native.Nat.{◌-◌}
 use native.Mathlib.Omega.{arith}
 use Rattle.lent.proofs.Copying.{copy_start, copy_one, copy_end}
 use Rattle.lines.proofs.Laws.{laid_not, laid_is}

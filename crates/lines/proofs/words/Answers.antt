@@ -1,4 +1,3 @@
-use Prim.Native.Nat.{◌-◌}
 use mathlib.Core.Logic.{inl, inr}
 use Rattle.lines.proofs.Laws.{reading_start, reading_one, reading_end}
 use borrow.Author.Rules.{rules}

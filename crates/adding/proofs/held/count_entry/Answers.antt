@@ -1,4 +1,3 @@
-use borrow.Author.Rules.{rules}
 use Rattle.adding.proofs.Entries.{count_fits, count_none, count_one}
 use Prim.Native.Nat.{◌+◌, ◌-◌, ◌*◌}
 use native.Mathlib.Omega.{arith}

@@ -1,4 +1,3 @@
-use Prim.Native.Nat.{◌-◌}
 use Rattle.adding.proofs.Steps.{step_later_code, step_over, step_later, ties_read}
 use Rattle.adding.proofs.held.take_later_step.Goals as goal
 

@@ -1,4 +1,3 @@
-use Prim.Native.Nat.{◌-◌}
 use borrow.Author.Rules.{rules}
 use Rattle.items.proofs.Saying.{saying_start, saying_one, saying_done}
 use Rattle.items.proofs.say.numbers.Goals as goal

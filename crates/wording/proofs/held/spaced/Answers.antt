@@ -1,4 +1,3 @@
-use Prim.Native.Nat.{◌-◌}
 use Rattle.wording.proofs.Saying.{spacing_start, spacing_one, spacing_end}
 use borrow.Author.Rules.{rules}
 use Rattle.wording.proofs.held.spaced.Goals as goal
