@@ -1,5 +1,5 @@
-// `RuleCursor` of matcher.rs: a place in a list of matched rules, which yields their numbers one after the other. The borrow checker covers no
-// function over a struct that holds a slice, so each is thin, and proved by hand; the work is in `rule_at` and `index_after`.
+// `RuleCursor` of matcher.rs: a place in a list of matched rules, which yields their numbers one after the other. The functions
+// over the struct, which holds a slice, are thin: the work is in `rule_at` and `index_after`.
 #![tactic(auto)]
 
 ghost use Rattle.std.specs.Prelude.{◌≡◌};

@@ -1,5 +1,5 @@
 -- 01: "show any two allowed outcomes equal": each public call's contract, as its `ensures` says it, determines the outcome. Assumes nothing.
--- A slice's words before the call stand for `now x.entry`, those after it for `now x.exit`; a slice that is not lent to write stays as it is.
+-- A slice's words before the call stand for `x.now` (`x.old` where it is lent to write), those after it for `x.new`; a slice that is not lent to write stays as it is.
 use mathlib.Core.Path.{◌≡◌, sym, ap, ◌∙◌}
 use mathlib.Core.List.{List, [], ◌∷◌}
 use Prim.Native.Nat.{ℕ, suc}

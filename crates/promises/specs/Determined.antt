@@ -7,6 +7,6 @@ use Rattle.std.specs.Borrow.{Bor}
 abbrev pub Determined : {A : Type 0} → (A → Type 0) → Type 0
 Determined {A} Allowed = (a b : A) → Allowed a → Allowed b → a ≡ b
 
--- Of an answer that is a part of a lent slice: its numbers, and its place in memory. (A `RefT` has a third part, a name within the logic, which no program has)
+-- Of an answer that is a part of a lent slice: its numbers, and its place in memory. (A `Bor` has no other part)
 abbrev pub DeterminedPart : (Bor (List ℕ) → Type 0) → Type 0
 DeterminedPart Allowed = (a b : Bor (List ℕ)) → Allowed a → Allowed b → (a.now ≡ b.now) × (a.ref_ptr ≡ b.ref_ptr)
