@@ -10,7 +10,7 @@ use lib.Seq.{sets-eq, length-sets, length-take-le, take_at, drop_at, drop-drop}
 use Rattle.lent.proofs.Pool.{rest_all}
 use Rattle.table.specs.Tables.{Table}
 use Rattle.records.specs.declared.Record.{Record}
-use Rattle.records.specs.Records.{known, kind_of, size_of, is_whole, record_in}
+use Rattle.records.specs.Records.{kind_of, size_of, is_whole, record_in}
 use Rattle.records.proofs.Records.{size_some, whole_room}
 use Rattle.wording.specs.Lines.{refused_line, Said, Room}
 use Rattle.replies.specs.Walking.{Walking, walking, walking_line, walking_after, ends}

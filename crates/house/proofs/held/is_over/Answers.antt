@@ -9,11 +9,9 @@ use Rattle.house.proofs.held.is_over.Goals as goal
 -- `house::held::is_over` meets its contract. Assumes nothing.
 
 none-taken : (at : ℕ) (t : Bool) → at ≡ 0 → t ≡ (eqb at 0 && t)
-
 none-taken at t e = rw e
 
 some-taken : (at : ℕ) (t : Bool) → (at ≡ 0 → ⊥) → eqb at 0 ≡ (eqb at 0 && t)
-
 some-taken at t h = rw (ne_eqb at 0 h)
 
 pub returns-then-at-eq0 : goal.returns-then-at-eq0

@@ -1,5 +1,4 @@
 use mathlib.Core.Path.{◌∙◌}
-use Rattle.given.specs.Given.{given}
 use Rattle.loading.proofs.Laws.{turning_start, turning_before, turning_next, reads_size}
 use borrow.Author.Rules.{rules}
 use Rattle.loading.proofs.held.read_sheet.Goals as goal

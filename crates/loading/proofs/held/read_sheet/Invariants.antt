@@ -2,7 +2,6 @@ use mathlib.Core.Path.{◌≡◌}
 use lib.ListN.{length}
 use Rattle.given.specs.Given.{given}
 use Rattle.loading.proofs.Laws.{Turning}
-use borrow.Author.Rules.{rules}
 use Rattle.loading.proofs.held.read_sheet.Given as goal
 
 abbrev pub invariant-loop-turns : goal.invariant-loop-turns

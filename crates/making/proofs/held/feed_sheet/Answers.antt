@@ -1,6 +1,4 @@
-use Prim.Native.Nat.{◌-◌}
 use mathlib.Core.Path.{refl, ◌∙◌}
-use Rattle.given.specs.Given.{given}
 use Rattle.making.proofs.Feeding.{turns_start, turn_before, turn_falls, turn_one, turns_end}
 use Rattle.making.proofs.held.feed_sheet.Goals as goal
 

@@ -3,7 +3,6 @@ use mathlib.Core.Path.{◌≡◌}
 use lib.ListN.{length}
 use Rattle.given.specs.Given.{given}
 use Rattle.making.proofs.Feeding.{Turns}
-use borrow.Author.Rules.{rules}
 use Rattle.making.proofs.held.feed_sheet.Given as goal
 
 abbrev pub invariant-loop-found : goal.invariant-loop-found

@@ -1,7 +1,6 @@
 use Prim.Native.Nat.{◌-◌}
 use mathlib.Core.Path.{◌≡◌}
 use lib.ListN.{length}
-use borrow.Author.Rules.{rules}
 use Rattle.walks.proofs.tell.yields.Given as goal
 
 abbrev pub invariant-loop-turns : goal.invariant-loop-turns
