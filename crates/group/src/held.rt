@@ -202,7 +202,7 @@ fn id_sum(rules: &[u32], n: usize, steps: &[u32], combinators: &[u32]) -> usize
 // The counts after.
 fn group_counts(c: Counts, rules: &[u32], n: usize, steps: &[u32], combinators: &[u32]) -> Counts
     requires { Within c × (n ≤ 256) × SelectorsFit (given rules.now steps.now combinators.now [] [] []) n × EntriesFit (given rules.now [] [] [] [] []) n }
-    ensures { result ≡ record { rules = c.rules + n; steps = c.steps + step_total (given rules.entry.now [] [] [] [] []) n; ids = c.ids + id_total (given rules.entry.now steps.now combinators.now [] [] []) n; entries = c.entries + entry_total (given rules.entry.now [] [] [] [] []) n; styles = c.styles; style_entries = c.style_entries; next = c.next + 1 } }
+    ensures { result ≡ record { rules = c.rules + n; steps = c.steps + step_total (given rules.now [] [] [] [] []) n; ids = c.ids + id_total (given rules.now steps.now combinators.now [] [] []) n; entries = c.entries + entry_total (given rules.now [] [] [] [] []) n; styles = c.styles; style_entries = c.style_entries; next = c.next + 1 } }
 {
     let step_total = third_sum(rules, 0, n);
     let entry_total = third_sum(rules, 2, n);
