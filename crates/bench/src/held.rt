@@ -27,8 +27,7 @@ fn number_of(settled: Settled) -> u32
 }
 
 // The number of the child.
-#[unsafe(no_mangle)]
-pub extern "C" fn bench_held_enter(
+pub fn bench_held_enter(
     sheet: &[u32],
     head: &mut [u32],
     states: &mut [u32],
@@ -56,13 +55,7 @@ pub extern "C" fn bench_held_enter(
 }
 
 // The matched rules of a state, copied; how many there are.
-#[unsafe(no_mangle)]
-pub extern "C" fn bench_held_matching(
-    states: &[u32],
-    matched: &[u32],
-    number: u32,
-    out: &mut [u32],
-) -> usize
+pub fn bench_held_matching(states: &[u32], matched: &[u32], number: u32, out: &mut [u32]) -> usize
     ensures { Copied (matched_at states.now matched.now number) out.old result out.new }
 {
     let list = matcher::held::matching_rules(states, matched, number);
@@ -81,8 +74,7 @@ fn best_number(best: Best) -> usize
 }
 
 // The source that wins a property in a state.
-#[unsafe(no_mangle)]
-pub extern "C" fn bench_held_winner(
+pub fn bench_held_winner(
     sheet: &[u32],
     head: &[u32],
     states: &[u32],
@@ -110,8 +102,7 @@ pub extern "C" fn bench_held_winner(
 }
 
 // The properties that change from one state to another, into the front of `into`; how many there are.
-#[unsafe(no_mangle)]
-pub extern "C" fn bench_held_changed(
+pub fn bench_held_changed(
     sheet: &[u32],
     head: &[u32],
     states: &[u32],

@@ -1,4 +1,4 @@
-// For measuring: the public calls under plain names, with numbers and slices only. Linked by the Rust program in bench/.
+// For measuring: the public calls under plain names, with numbers and slices only. `bench_c` exports them to C.
 #![tactic(auto)]
 
 ghost use Rattle.std.specs.Prelude.{◌≡◌, not, List, ℕ, drop};
@@ -51,16 +51,14 @@ fn entered(entering: Entering) -> u32
     }
 }
 
-#[unsafe(no_mangle)]
-pub extern "C" fn bench_new(sheet: &mut [u32]) -> u32
+pub fn bench_new(sheet: &mut [u32]) -> u32
     ensures { Outcome (empty_verdict sheet.old) 0 sheet.old (emptied sheet.old) result sheet.new }
 {
     let pushing = builder::new(sheet);
     told(pushing)
 }
 
-#[unsafe(no_mangle)]
-pub extern "C" fn bench_push_style(
+pub fn bench_push_style(
     sheet: &mut [u32],
     origin: u32,
     properties: &[u16],
@@ -74,8 +72,7 @@ pub extern "C" fn bench_push_style(
     told(pushing)
 }
 
-#[unsafe(no_mangle)]
-pub extern "C" fn bench_push_rules(
+pub fn bench_push_rules(
     sheet: &mut [u32],
     origin: u32,
     rules: &[u32],
@@ -102,8 +99,7 @@ pub extern "C" fn bench_push_rules(
     told(pushing)
 }
 
-#[unsafe(no_mangle)]
-pub extern "C" fn bench_build(
+pub fn bench_build(
     sheet: &[u32],
     stamp: u32,
     head: &mut [u32; 8],
@@ -117,8 +113,7 @@ pub extern "C" fn bench_build(
 }
 
 // The number of the child.
-#[unsafe(no_mangle)]
-pub extern "C" fn bench_enter(
+pub fn bench_enter(
     sheet: &[u32],
     head: &mut [u32; 8],
     states: &mut [u32],
@@ -147,8 +142,7 @@ pub extern "C" fn bench_enter(
 }
 
 // The matched rules of a state, copied; how many there are.
-#[unsafe(no_mangle)]
-pub extern "C" fn bench_matching(
+pub fn bench_matching(
     sheet: &[u32],
     head: &[u32; 8],
     states: &[u32],
@@ -175,15 +169,13 @@ pub extern "C" fn bench_matching(
     list.len()
 }
 
-#[unsafe(no_mangle)]
-pub extern "C" fn bench_is_sheet(sheet: &[u32]) -> bool
+pub fn bench_is_sheet(sheet: &[u32]) -> bool
     ensures { result ≡ sheet_shape sheet.now }
 {
     sheet::shape::is_sheet(sheet)
 }
 
-#[unsafe(no_mangle)]
-pub extern "C" fn bench_is_table(
+pub fn bench_is_table(
     sheet: &[u32],
     head: &[u32; 8],
     states: &[u32],

@@ -42,8 +42,7 @@ fn changing_number(changing: Changing) -> usize
 }
 
 // The source that wins a property in a state.
-#[unsafe(no_mangle)]
-pub extern "C" fn bench_winner(
+pub fn bench_winner(
     sheet: &[u32],
     head: &[u32; 8],
     states: &[u32],
@@ -71,8 +70,7 @@ pub extern "C" fn bench_winner(
 }
 
 // The properties that change from one state to another, listed; how many there are.
-#[unsafe(no_mangle)]
-pub extern "C" fn bench_changed(
+pub fn bench_changed(
     sheet: &[u32],
     head: &[u32; 8],
     states: &[u32],
