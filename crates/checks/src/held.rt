@@ -1,9 +1,10 @@
-// What selectors and paths are refused for, in 01's order. A verdict is the refusal's number, 0 for none.
+// What selectors and paths are refused for, in 01's order.
 ghost use Rattle.std.specs.Prelude.{◌≡◌, [], ◌∷◌, ℕ, ◌≤◌, ◌*◌, length};
 ghost use Rattle.lent.specs.All.{all_below};
-ghost use Rattle.lent.specs.Refusals.{check, first_of};
+ghost use Rattle.lent.specs.Refusals.{check, first_of, verdict_of};
 ghost use Rattle.selector.specs.Checks.{row_fits, selector_over, path_over, combinators_off, codes_over, subjects_off, selector_verdict, path_verdict};
 
+use lent::Refusal;
 use selector::held::{STEP_WORDS, SUBJECT_WORDS, row_ascends, row_fits};
 
 fn steps_fit(steps: &[u32], n: usize) -> bool
@@ -100,52 +101,54 @@ fn subjects_off(path: &[u32], m: usize) -> bool
 }
 
 // 3, then 6, of c combinators for n steps.
-pub fn combinators_verdict(n: usize, combinators: &[u32], c: usize) -> u32
+pub fn check_combinators(n: usize, combinators: &[u32], c: usize) -> Result<(), Refusal>
     requires { c ≤ length combinators.now }
-    ensures { result ≡ first_of (check 3 (combinators_off n c) ∷ check 6 (codes_over combinators.now c) ∷ []) }
+    ensures { verdict_of result ≡ first_of (check 3 (combinators_off n c) ∷ check 6 (codes_over combinators.now c) ∷ []) }
 {
     if combinators_off(n, c) {
-        return 3;
+        return Err(Refusal::CombinatorCount);
     }
     if codes_over(combinators, c) {
-        return 6;
+        return Err(Refusal::CodeOutOfRange);
     }
-    0
+    Ok(())
 }
 
 // Of a selector alone: 2, 3, 6.
-pub fn selector_verdict(steps: &[u32], n: usize, combinators: &[u32], c: usize) -> u32
-    ensures { result ≡ selector_verdict steps.now n combinators.now c }
+pub fn check_selector(
+    steps: &[u32],
+    n: usize,
+    combinators: &[u32],
+    c: usize,
+) -> Result<(), Refusal>
+    ensures { verdict_of result ≡ selector_verdict steps.now n combinators.now c }
 {
     if selector_over(steps, n, combinators, c) {
-        return 2;
+        return Err(Refusal::OverSize);
     }
-    combinators_verdict(n, combinators, c)
+    check_combinators(n, combinators, c)
 }
 
 // "Matching and diagnosis 2 (selector, then path), 3, 6, 1."
-pub fn path_verdict(
+pub fn check_path(
     steps: &[u32],
     n: usize,
     combinators: &[u32],
     c: usize,
     path: &[u32],
     m: usize,
-) -> u32
-    ensures { result ≡ path_verdict steps.now n combinators.now c path.now m }
+) -> Result<(), Refusal>
+    ensures { verdict_of result ≡ path_verdict steps.now n combinators.now c path.now m }
 {
     if selector_over(steps, n, combinators, c) {
-        return 2;
+        return Err(Refusal::OverSize);
     }
     if path_over(path, m) {
-        return 2;
+        return Err(Refusal::OverSize);
     }
-    let v = combinators_verdict(n, combinators, c);
-    if v != 0 {
-        return v;
-    }
+    check_combinators(n, combinators, c)?;
     if subjects_off(path, m) {
-        return 1;
+        return Err(Refusal::NotAscending);
     }
-    0
+    Ok(())
 }

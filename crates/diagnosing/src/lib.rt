@@ -7,10 +7,10 @@ ghost use Rattle.selector.specs.Checks.{subjects_off};
 ghost use Rattle.selector.specs.Matching.{hit_at, far_at};
 ghost use Rattle.selector.specs.Diagnosing.{tried, judge, diagnosis_told, diagnosis_of};
 
-use checks::held::path_verdict;
+use checks::held::check_path;
 use lent::Refusal;
 use matching::held::{hits, is_far};
-use selector::Diagnosis;
+use selector::SelectorMismatch;
 
 // What is found of the steps from `step` on, up to the last of n, with `step` at `place`.
 #[cycle(diagnose_path_from_try_later)]
@@ -22,41 +22,41 @@ fn diagnose_path_from(
     m: usize,
     step: usize,
     place: usize,
-) -> Diagnosis
+) -> Result<(), SelectorMismatch>
     requires { (step < n) × (n ≤ 8) × (m ≤ 32) × (subjects_off path.now m ≡ false) }
     ensures { result ≡ judge (hit_at steps.now path.now) (far_at combinators.now) m (n - (step + 1)) step place }
 {
     if m <= place {
-        return Diagnosis::MissingSubject {
+        return Err(SelectorMismatch::MissingSubject {
             step_index: step,
             path_index: place,
-        };
+        });
     }
     if !hits(steps, step, path, m, place) {
-        return Diagnosis::StepMismatch {
+        return Err(SelectorMismatch::StepMismatch {
             step_index: step,
             path_index: place,
-        };
+        });
     }
     let next = step + 1;
     let after = place + 1;
     if next < n {
         if is_far(combinators, step) {
-            let none = Diagnosis::MissingDescendant {
+            let none = Err(SelectorMismatch::MissingDescendant {
                 step_index: next,
                 after_path_index: after,
-            };
+            });
             try_later(steps, n, combinators, path, m, next, after, none)
         } else {
             diagnose_path_from(steps, n, combinators, path, m, next, after)
         }
     } else if after < m {
-        Diagnosis::TrailingSubjects {
+        Err(SelectorMismatch::TrailingSubjects {
             step_count: next,
             path_index: after,
-        }
+        })
     } else {
-        Diagnosis::Fits
+        Ok(())
     }
 }
 
@@ -70,8 +70,8 @@ fn try_later(
     m: usize,
     step: usize,
     from: usize,
-    last: Diagnosis,
-) -> Diagnosis
+    last: Result<(), SelectorMismatch>,
+) -> Result<(), SelectorMismatch>
     requires { (step < n) × (n ≤ 8) × (m ≤ 32) × (subjects_off path.now m ≡ false) }
     ensures { result ≡ tried last (spread (judge (hit_at steps.now path.now) (far_at combinators.now) m (n - (step + 1)) step) from (m - from)) }
 {
@@ -81,11 +81,8 @@ fn try_later(
     let found = diagnose_path_from(steps, n, combinators, path, m, step, from);
     let next = from + 1;
     match found {
-        Diagnosis::Fits => Diagnosis::Fits,
-        Diagnosis::StepMismatch {
-            step_index: _,
-            path_index: _,
-        } => try_later(steps, n, combinators, path, m, step, next, last),
+        Ok(()) => Ok(()),
+        Err(SelectorMismatch::StepMismatch { .. }) => try_later(steps, n, combinators, path, m, step, next, last),
         _ => try_later(steps, n, combinators, path, m, step, next, found),
     }
 }
@@ -98,25 +95,30 @@ pub fn diagnose_path(
     combinator_count: usize,
     path: &[u32],
     path_count: usize,
-) -> Diagnosis
+) -> Result<Result<(), SelectorMismatch>, Refusal>
     ensures { diagnosis_told result ≡ diagnosis_of steps.now step_count combinators.now combinator_count path.now path_count }
 {
-    let v = path_verdict(
+    check_path(
         steps,
         step_count,
         combinators,
         combinator_count,
         path,
         path_count,
-    );
-    if v != 0 {
-        return Diagnosis::Refused(Refusal::of(v));
-    }
+    )?;
     if step_count == 0 {
         if path_count == 0 {
-            return Diagnosis::Fits;
+            return Ok(Ok(()));
         }
-        return Diagnosis::EmptySelectorWithNonEmptyPath;
+        return Ok(Err(SelectorMismatch::EmptySelectorWithNonEmptyPath));
     }
-    diagnose_path_from(steps, step_count, combinators, path, path_count, 0, 0)
+    Ok(diagnose_path_from(
+        steps,
+        step_count,
+        combinators,
+        path,
+        path_count,
+        0,
+        0,
+    ))
 }

@@ -10,9 +10,10 @@ use native.Mathlib.Omega.{arith}
 use native.Mathlib.Decide.{dec_lt}
 use lib.ListN.{get_or, get_or-eq_default}
 use lib.Dec.{ltb, eqb}
-use borrow.Author.Tests.{ltb-true, eq-eqb}
+use borrow.Author.Tests.{ltb-true, eq-eqb, ne_eqb}
 use Rattle.theory.proofs.Lists.{and_left, and_right}
-use Rattle.lent.specs.Refusals.{number_of, added, told, refusals, refusal_of, Check, check, first_of, checks_below}
+use Rattle.std.specs.Prelude.{Result, Ok, Err, ⊤}
+use Rattle.lent.specs.Refusals.{number_of, added, told, refusals, refusal_of, Check, check, first_of, checks_below, answered, answer_told, yes_told, number_told, done_told}
 use Rattle.lent.specs.declared.Refusal.{Refusal}
 use Rattle.lent.specs.declared.Refusal.TheVariants.{NotAscending, OverSize, CombinatorCount, NotAState, NoRoom, CodeOutOfRange, NoSourceIndex, BufferTooShort, NoSuchRule, BadRecord, BrokenShape}
 
@@ -106,6 +107,28 @@ read_refused accepted refused r =
 -- so that two refusals that tell the same are the same
 pub told_distinct : (a b : Refusal) → told a ≡ told b → a ≡ b
 told_distinct a b e = sym (untold_told a) ∙ ap untold e ∙ untold_told b
+
+-- two answers that tell the same are the same, where what an accepted call gives can be read back of its numbers
+module _ {A : Type 0} (tell : A → List ℕ) (read : List ℕ → A) (reads : (a : A) → read (tell a) ≡ a) where
+  read_answer : List ℕ → Result A Refusal
+  read_answer = read_back (λ l. Ok (read l)) Err
+
+  read_answer_lem : (a : Result A Refusal) → read_answer (answer_told tell a) ≡ a
+  unfolding read_answer read_back
+  read_answer_lem (Ok a) = ap Ok (reads a)
+  read_answer_lem (Err r) = read_refused _ Err r
+
+  pub answer_distinct : (a b : Result A Refusal) → answer_told tell a ≡ answer_told tell b → a ≡ b
+  answer_distinct a b e = sym (read_answer_lem a) ∙ ap read_answer e ∙ read_answer_lem b
+
+pub yes_distinct : (a b : Result Bool Refusal) → yes_told a ≡ yes_told b → a ≡ b
+yes_distinct = answer_distinct _ (λ l. eqb (get_or l 0 0) 1) (elim [ true ↦ refl | false ↦ refl ])
+
+pub number_distinct : (a b : Result ℕ Refusal) → number_told a ≡ number_told b → a ≡ b
+number_distinct = answer_distinct _ (λ l. get_or l 0 0) (λ n. refl)
+
+pub done_distinct : (a b : Result ⊤ Refusal) → done_told a ≡ done_told b → a ≡ b
+done_distinct = answer_distinct _ (λ l. tt) (λ u. refl)
 
 -- ---- the first test that holds
 
@@ -288,3 +311,43 @@ told_first (c ∷ l) v n e h = by c.fails refl (λ f. told_first l v (and_right 
     by : (t : Bool) → c.fails ≡ t → (c.fails ≡ false → told (refusal_of v) ≡ v ∷ []) → told (refusal_of v) ≡ v ∷ []
     by true f r = let q : v ≡ c.number = e ∙ first_here c l f in rw q (told_alone c.number (and_left (alone c.number) _ n))
     by false f r = r f
+
+-- ---- a check's verdict, handed on
+
+-- a refusal's number is not 0
+pub refusal_number : (r : Refusal) → number_of r ≡ 0 → ⊥
+refusal_number r e = let (n, q) = number_positive r in omega arith
+
+-- a refusal whose number is one that is told alone
+pub told_number : (r : Refusal) (v : ℕ) → number_of r ≡ v → alone v ≡ true → told r ≡ v ∷ []
+told_number NotAscending v e a = rw (← e) refl
+told_number OverSize v e a = rw (← e) refl
+told_number CombinatorCount v e a = rw (← e) refl
+told_number NotAState v e a = rw (← e) refl
+told_number NoRoom v e a = rw (← e) refl
+told_number CodeOutOfRange v e a = rw (← e) refl
+told_number NoSourceIndex v e a = rw (← e) refl
+told_number BufferTooShort v e a = rw (← e) refl
+told_number NoSuchRule v e a = rw (← e) refl
+told_number (BadRecord at) v e a = absurd (true≢false (sym a ∙ ap alone (sym e)))
+told_number BrokenShape v e a = rw (← e) refl
+
+-- what a list of named checks refuses with is told alone
+pub named_first : (l : List Check) → named l ≡ true → (first_of l ≡ 0 → ⊥) → alone (first_of l) ≡ true
+unfolding first_of
+named_first [] n h = absurd (h refl)
+named_first (c ∷ l) n h = by c.fails refl (λ f. named_first l (and_right (alone c.number) _ n) (λ e. h (first_next c l f ∙ e)))
+  where
+    by : (t : Bool) → c.fails ≡ t → (c.fails ≡ false → alone (first_of l) ≡ true) → alone (first_of (c ∷ l)) ≡ true
+    by true f r = rw (first_here c l f) (and_left (alone c.number) _ n)
+    by false f r = rw (first_next c l f) (r f)
+
+-- a check's refusal is the answer of the call that asks it
+pub refused_first : (l : List Check) (r : Refusal) (accepted : List ℕ) → named l ≡ true → number_of r ≡ first_of l → told r ≡ answered (first_of l) accepted
+refused_first l r accepted n e =
+    let some : (first_of l ≡ 0 → ⊥) = λ z. refusal_number r (e ∙ z) in
+    rw (ne_eqb (first_of l) 0 some) (told_number r (first_of l) e (named_first l n some))
+
+-- where the check finds nothing, the call is accepted
+pub accepted_first : (v : ℕ) (accepted : List ℕ) → 0 ≡ v → accepted ≡ answered v accepted
+accepted_first v accepted e = rw (← e) refl

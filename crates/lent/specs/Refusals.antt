@@ -1,5 +1,5 @@
 -- The refusals' numbers, and which of several counts. Assumes nothing.
-use Rattle.std.specs.Prelude.{Bool, cond, List, [], ◌∷◌, ◌++◌, ℕ, zero, suc, get_or, eqb}
+use Rattle.std.specs.Prelude.{Bool, cond, List, [], ◌∷◌, ◌++◌, ℕ, zero, suc, get_or, eqb, Result, Ok, Err, ⊤}
 use Rattle.lent.specs.declared.Refusal.{Refusal}
 use Rattle.lent.specs.declared.Refusal.TheVariants.{NotAscending, OverSize, CombinatorCount, NotAState, NoRoom, CodeOutOfRange, NoSourceIndex, BufferTooShort, NoSuchRule, BadRecord, BrokenShape}
 
@@ -80,3 +80,25 @@ one_if b = cond b 1 0
 -- A call's answer as numbers: what an accepted call tells, a list that begins with 0, or the refusal's number alone
 abbrev pub answered : ℕ → List ℕ → List ℕ
 answered verdict accepted = cond (eqb verdict 0) accepted (verdict ∷ [])
+
+-- An accepted call tells 0 and then what it gives, a refused one its refusal
+abbrev pub answer_told : {A : Type 0} → (A → List ℕ) → Result A Refusal → List ℕ
+answer_told tell (Ok a) = 0 ∷ tell a
+answer_told tell (Err r) = told r
+
+-- yes or no: 1 or 0
+abbrev pub yes_told : Result Bool Refusal → List ℕ
+yes_told r = answer_told (λ b. one_if b ∷ []) r
+
+-- a number
+abbrev pub number_told : Result ℕ Refusal → List ℕ
+number_told r = answer_told (λ n. n ∷ []) r
+
+-- nothing but that it is done
+abbrev pub done_told : Result ⊤ Refusal → List ℕ
+done_told r = answer_told (λ u. []) r
+
+-- What a check finds: the refusal's number, 0 for none
+abbrev pub verdict_of : {A : Type 0} → Result A Refusal → ℕ
+verdict_of (Ok a) = 0
+verdict_of (Err r) = number_of r

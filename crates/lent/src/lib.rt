@@ -4,12 +4,15 @@
 ghost use Rattle.std.specs.Prelude.{◌≡◌};
 ghost use Rattle.lent.specs.Refusals.{number_of, refusal_of};
 
+use std::error::Error;
+use std::fmt;
+
 pub mod held;
 pub mod lists;
 pub mod words;
 
 // 01, "Numbers given back on refusal": a case for each number, in the table's order.
-#[derive(Clone, Copy)]
+#[derive(Clone, Copy, Debug, PartialEq, Eq)]
 pub enum Refusal {
     // 1: ids or property ids that are not strictly ascending
     NotAscending,
@@ -53,11 +56,13 @@ impl Refusal {
             Refusal::BrokenShape => 11,
         }
     }
+}
 
-    // The refusal with a number; 10 at offset 0.
-    pub fn of(number: u32) -> Self
-        ensures { result ≡ refusal_of number }
-    {
+// The refusal with a number; 10 at offset 0.
+impl From<u32> for Refusal {
+    ghost from_gives = { λ number refusal. refusal ≡ refusal_of number };
+
+    fn from(number: u32) -> Refusal {
         match number {
             1 => Refusal::NotAscending,
             2 => Refusal::OverSize,
@@ -73,3 +78,23 @@ impl Refusal {
         }
     }
 }
+
+impl fmt::Display for Refusal {
+    fn fmt<W: fmt::Write>(&self, f: &mut fmt::Formatter<W>) -> fmt::Result {
+        match self {
+            Refusal::NotAscending => write!(f, "1: ids or property ids do not ascend"),
+            Refusal::OverSize => write!(f, "2: a count is over its size, or past its list"),
+            Refusal::CombinatorCount => write!(f, "3: combinators are not one fewer than the steps"),
+            Refusal::NotAState => write!(f, "4: no state of this table"),
+            Refusal::NoRoom => write!(f, "5: no room for a state"),
+            Refusal::CodeOutOfRange => write!(f, "6: an origin, a ranking, a combinator or a kind is out of range"),
+            Refusal::NoSourceIndex => write!(f, "7: the source indexes are used up"),
+            Refusal::BufferTooShort => write!(f, "8: the buffer for the answer is too short"),
+            Refusal::NoSuchRule => write!(f, "9: no such rule"),
+            Refusal::BadRecord(at) => write!(f, "10: the record at byte {at} can't be read"),
+            Refusal::BrokenShape => write!(f, "11: the sheet or table is not in shape"),
+        }
+    }
+}
+
+impl Error for Refusal {}

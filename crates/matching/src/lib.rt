@@ -6,9 +6,8 @@ ghost use Rattle.selector.specs.Checks.{subjects_off};
 ghost use Rattle.selector.specs.Matching.{any_from, fits_from, hit_at, far_at, matching_told, matching_of};
 
 use crate::held::{hits, is_far};
-use checks::held::path_verdict;
+use checks::held::check_path;
 use lent::Refusal;
-use selector::Matching;
 
 pub mod held;
 
@@ -76,28 +75,27 @@ pub fn matches_path(
     combinator_count: usize,
     path: &[u32],
     path_count: usize,
-) -> Matching
+) -> Result<bool, Refusal>
     ensures { matching_told result ≡ matching_of steps.now step_count combinators.now combinator_count path.now path_count }
 {
-    let v = path_verdict(
+    check_path(
         steps,
         step_count,
         combinators,
         combinator_count,
         path,
         path_count,
-    );
-    if v != 0 {
-        return Matching::Refused(Refusal::of(v));
-    }
+    )?;
     if step_count == 0 {
-        if path_count == 0 {
-            return Matching::Yes;
-        }
-        return Matching::No;
+        return Ok(path_count == 0);
     }
-    if matches_path_from(steps, step_count, combinators, path, path_count, 0, 0) {
-        return Matching::Yes;
-    }
-    Matching::No
+    Ok(matches_path_from(
+        steps,
+        step_count,
+        combinators,
+        path,
+        path_count,
+        0,
+        0,
+    ))
 }

@@ -1,9 +1,8 @@
 -- Whether a selector fits a path, as a function: 01, "Paths". Assumes nothing.
-use Rattle.std.specs.Prelude.{Bool, true, false, cond, List, [], ◌∷◌, ℕ, zero, suc, ◌+◌, ◌-◌, get_or, ltb, eqb}
+use Rattle.std.specs.Prelude.{Bool, true, false, cond, List, [], ◌∷◌, ℕ, zero, suc, ◌+◌, ◌-◌, get_or, ltb, eqb, Result, Ok}
 use Rattle.theory.specs.States.{descends}
-use Rattle.lent.specs.Refusals.{told, answered}
-use Rattle.selector.specs.declared.Matching.{Matching}
-use Rattle.selector.specs.declared.Matching.TheVariants.{Yes, No, Refused}
+use Rattle.lent.specs.declared.Refusal.{Refusal}
+use Rattle.lent.specs.Refusals.{answered, yes_told}
 use Rattle.selector.specs.Tags.{step_matches}
 use Rattle.selector.specs.Rows.{step_at, subject_at, comb_of}
 use Rattle.selector.specs.Checks.{path_verdict}
@@ -37,14 +36,9 @@ fits steps zero combinators path m = eqb m 0
 fits steps (suc n) combinators path m = fits_from (hit_at steps path) (far_at combinators) m n 0 0
 
 -- The answer as numbers: 0 and then 1 for yes or 0 for no; a refusal's own number
-abbrev pub matching_told : Matching → List ℕ
-matching_told Yes = 0 ∷ 1 ∷ []
-matching_told No = 0 ∷ 0 ∷ []
-matching_told (Refused r) = told r
-
-abbrev pub yes_no : Bool → Matching
-yes_no b = cond b Yes No
+abbrev pub matching_told : Result Bool Refusal → List ℕ
+matching_told r = yes_told r
 
 unfoldable pub matching_of : List ℕ → ℕ → List ℕ → ℕ → List ℕ → ℕ → List ℕ
 matching_of steps n combinators c path m =
-    answered (path_verdict steps n combinators c path m) (matching_told (yes_no (fits steps n combinators path m)))
+    answered (path_verdict steps n combinators c path m) (matching_told (Ok (fits steps n combinators path m)))

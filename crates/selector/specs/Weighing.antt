@@ -1,12 +1,11 @@
 -- The weight of a selector in lent rows: 01, "Weight, winners, changes". Assumes nothing.
-use Rattle.std.specs.Prelude.{◌≡◌, List, [], ◌∷◌, ℕ, ◌≤◌, length}
+use Rattle.std.specs.Prelude.{◌≡◌, List, [], ◌∷◌, ℕ, ◌≤◌, length, Result}
 use Rattle.std.proofs.Math.Option.{Option, none, some}
 use Rattle.theory.specs.Lists.{spread, total}
 use Rattle.theory.specs.Weight.{Counts, Weight, weight_numbers, weight_of}
-use Rattle.lent.specs.Refusals.{told, answered}
+use Rattle.lent.specs.declared.Refusal.{Refusal}
+use Rattle.lent.specs.Refusals.{answered, answer_told}
 use Rattle.selector.specs.declared.Specificity.{Specificity}
-use Rattle.selector.specs.declared.Weighing.{Weighing}
-use Rattle.selector.specs.declared.Weighing.TheVariants.{Weighs, Refused}
 use Rattle.selector.specs.Tags.{Tags}
 use Rattle.selector.specs.Rows.{step_at}
 use Rattle.selector.specs.Checks.{selector_verdict}
@@ -55,9 +54,8 @@ pub record Unsaturated (l : List Counts) : Type 0 where
   pub tags : (weight_of 1 l).second ≤ 128
 
 -- The answer as numbers: 0 and the four numbers of the weight; a refusal's own number
-abbrev pub weighing_told : Weighing → List ℕ
-weighing_told (Weighs w) = 0 ∷ w.0 ∷ w.1 ∷ w.2 ∷ w.3 ∷ []
-weighing_told (Refused r) = told r
+abbrev pub weighing_told : Result Specificity Refusal → List ℕ
+weighing_told r = answer_told (λ w. w.0 ∷ w.1 ∷ w.2 ∷ w.3 ∷ []) r
 
 abbrev pub weight_told : Weight → List ℕ
 weight_told w = 0 ∷ weight_numbers w

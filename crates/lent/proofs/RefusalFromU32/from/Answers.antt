@@ -1,5 +1,5 @@
 use Rattle.lent.proofs.Refusals.{of_is, above, past, of_rest}
-use Rattle.lent.proofs.Refusal.of.Goals as goal
+use Rattle.lent.proofs.RefusalFromU32.from.Goals as goal
 
 -- `lent::Refusal::of` meets its contract: a law for the numbers of the table, one for all others. Assumes nothing.
 

@@ -2,7 +2,7 @@ use borrow.Author.Rules.{rules}
 use Rattle.selector.specs.Checks.{path_verdict}
 use Rattle.lent.proofs.Refusals.{firsts}
 use Rattle.selector.proofs.CheckLaws.{combinators_there, places_few, first_kept, first_after}
-use Rattle.checks.proofs.held.path_verdict.Goals as goal
+use Rattle.checks.proofs.held.check_path.Goals as goal
 
 pub returns-then-selector_over : goal.returns-then-selector_over
 unfolding path_verdict
@@ -12,12 +12,12 @@ pub returns-then-path_over : goal.returns-then-path_over
 unfolding path_verdict
 returns-then-path_over c = search (firsts, rules)
 
-pub combinators_verdict-v-requires : goal.combinators_verdict-v-requires
-combinators_verdict-v-requires c = search (combinators_there, rules)
+pub check_combinators-requires : goal.check_combinators-requires
+check_combinators-requires c = search (combinators_there, rules)
 
-pub returns-then-v-ne0 : goal.returns-then-v-ne0
+pub returns-in_err-check_combinators : goal.returns-in_err-check_combinators
 unfolding path_verdict
-returns-then-v-ne0 c = search (first_kept, firsts, rules)
+returns-in_err-check_combinators c = search (first_kept, firsts, rules)
 
 pub subjects_off-requires : goal.subjects_off-requires
 subjects_off-requires c = search (places_few, rules)

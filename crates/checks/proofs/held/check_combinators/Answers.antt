@@ -1,6 +1,6 @@
 use borrow.Author.Rules.{rules}
 use Rattle.lent.proofs.Refusals.{firsts}
-use Rattle.checks.proofs.held.combinators_verdict.Goals as goal
+use Rattle.checks.proofs.held.check_combinators.Goals as goal
 
 pub returns-then-combinators_off : goal.returns-then-combinators_off
 returns-then-combinators_off c = search (firsts, rules)
