@@ -16,12 +16,6 @@ use table::layout;
 
 pub mod held;
 
-#[derive(Clone, Copy)]
-pub enum Building {
-    Built,
-    Refused(Refusal),
-}
-
 // `Matcher::root_state`
 pub fn root_state(stamp: u32) -> MatchState
     ensures { result ≡ record { number = 0; stamp = stamp } }
@@ -37,25 +31,25 @@ pub fn build(
     head: &mut [u32; 8],
     states: &mut [u32],
     cursors: &mut [u32],
-) -> Building
+) -> Result<(), Refusal>
     ensures { (m t : List ℕ) → Build sheet.now stamp ranking (table head.old states.old cursors.old m t) result (table head.new states.new cursors.new m t) }
 {
     if !is_sheet(sheet) {
-        return Building::Refused(Refusal::BrokenShape);
+        return Err(Refusal::BrokenShape);
     }
     if 1 < ranking {
-        return Building::Refused(Refusal::CodeOutOfRange);
+        return Err(Refusal::CodeOutOfRange);
     }
     let mut list = [0u32; 256];
     let n = roots(sheet, &mut list);
     if states.len() < wide(layout::STATE_WORDS) {
-        return Building::Refused(Refusal::NoRoom);
+        return Err(Refusal::NoRoom);
     }
     if cursors.len() < n {
-        return Building::Refused(Refusal::NoRoom);
+        return Err(Refusal::NoRoom);
     }
     put_root(stamp, ranking, head, states, cursors, &list[..n]);
-    Building::Built
+    Ok(())
 }
 
 pub(crate) fn put_root(

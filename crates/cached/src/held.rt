@@ -1,6 +1,7 @@
 // Nothing is required of the table: along whatever chain its words say.
 ghost use Rattle.std.specs.Prelude.{◌≡◌, ◌&&◌, ◌<◌};
 ghost use Rattle.selector.specs.Rows.{row_at, tag_of};
+ghost use Rattle.table.specs.Tables.{linked};
 ghost use Rattle.table.specs.Shape.{same};
 ghost use Rattle.table.specs.Entering.{same_tag, same_subject, leads, is_hit, cached_from, cached};
 
@@ -94,29 +95,34 @@ fn is_hit(transitions: &[u32], parent: u32, row: &[u32], k: u32) -> bool
     same_subject(transitions, at, row)
 }
 
-// The first link along the chain to a transition of this parent and subject; 0 for none.
-fn cached_from(transitions: &[u32], count: u32, parent: u32, row: &[u32], first: u32) -> u32
-    ensures { result ≡ cached_from transitions.now count parent (row_at 16 row.now 0) first count }
+// The first transition of this parent and subject along the chain.
+fn cached_from(transitions: &[u32], count: u32, parent: u32, row: &[u32], first: u32) -> Option<u32>
+    ensures { result ≡ linked (cached_from transitions.now count parent (row_at 16 row.now 0) first count) }
 {
     let links = layout::NEXT_LINKS;
     let mut link = first;
-    let mut left = count;
-    while left > 0 {
+    for _ in 0..count {
         if !leads(count, link) {
-            return 0;
+            return None;
         }
-        if is_hit(transitions, parent, row, link - 1) {
-            return link;
+        let k = link - 1;
+        if is_hit(transitions, parent, row, k) {
+            return Some(k);
         }
-        link = cell(transitions, links, link - 1);
-        left -= 1;
+        link = cell(transitions, links, k);
     }
-    0
+    None
 }
 
-// The link to the cached transition of this parent and subject; 0 for none.
-pub fn cached(head: &[u32], states: &[u32], transitions: &[u32], parent: u32, row: &[u32]) -> u32
-    ensures { result ≡ cached head.now states.now transitions.now parent (row_at 16 row.now 0) }
+// The number of the cached transition of this parent and subject.
+pub fn cached(
+    head: &[u32],
+    states: &[u32],
+    transitions: &[u32],
+    parent: u32,
+    row: &[u32],
+) -> Option<u32>
+    ensures { result ≡ linked (cached head.now states.now transitions.now parent (row_at 16 row.now 0)) }
 {
     let firsts = layout::FIRST_LINKS;
     cached_from(

@@ -1,22 +1,20 @@
 -- What entering answers, and the memory with it. Assumes nothing.
-use Rattle.std.specs.Prelude.{◌≡◌, true, cond, List, [], ◌∷◌, ◌++◌, ℕ, eqb}
+use Rattle.std.specs.Prelude.{◌≡◌, true, cond, List, [], ◌∷◌, ◌++◌, ℕ, eqb, Result, Option, Some, None}
 use Rattle.theory.specs.Lists.{ascends}
-use Rattle.lent.specs.Refusals.{told, answered, first_of}
-use Rattle.settle.specs.declared.Settled.{Settled}
-use Rattle.settle.specs.declared.Settled.TheVariants.{At, NoRoom}
+use Rattle.lent.specs.declared.Refusal.{Refusal}
+use Rattle.lent.specs.Refusals.{answered, answer_told, first_of}
+use Rattle.matcher.specs.declared.MatchState.{MatchState}
 use Rattle.table.specs.Tables.{Table, cursors_at}
 use Rattle.table.specs.Shape.{root_cursors}
 use Rattle.table.specs.Entering.{lacks_room, child_of, entered}
 use Rattle.table.specs.Calls.{state_checks, subject_checks, enter_verdict}
-use Rattle.entering.specs.declared.Entering.{Entering}
 
 -- the answer as numbers: 0 and the state, or a refusal's own number
-abbrev pub entering_told : Entering → List ℕ
-entering_told (Entering.Entered s) = 0 ∷ s.number ∷ s.stamp ∷ []
-entering_told (Entering.Refused r) = told r
+abbrev pub entering_told : Result MatchState Refusal → List ℕ
+entering_told r = answer_told (λ s. s.number ∷ s.stamp ∷ []) r
 
 -- answer and memory; a refused call changes no word. The child has its parent's stamp
-pub record Enter (w : List ℕ) (t : Table) (number stamp : ℕ) (row : List ℕ) (r : Entering) (t' : Table) : Type 0 where
+pub record Enter (w : List ℕ) (t : Table) (number stamp : ℕ) (row : List ℕ) (r : Result MatchState Refusal) (t' : Table) : Type 0 where
   pub answer : entering_told r ≡ answered (enter_verdict w t number stamp row) (0 ∷ child_of w t number row ∷ stamp ∷ [])
   pub memory : t' ≡ cond (eqb (enter_verdict w t number stamp row) 0) (entered w t number row) t
 
@@ -28,8 +26,8 @@ pub record Parents (w states cursors : List ℕ) (parent : ℕ) : Type 0 where
   pub parent_up : ascends (cursors_at states cursors parent) ≡ true
   pub root_up : ascends (cursors_at states cursors 0) ≡ true
 
-pub record Enters (w : List ℕ) (t : Table) (parent : ℕ) (row : List ℕ) (r : Settled) (t' : Table) : Type 0 where
-  pub answer : r ≡ cond (lacks_room w t parent row) NoRoom (At (child_of w t parent row))
+pub record Enters (w : List ℕ) (t : Table) (parent : ℕ) (row : List ℕ) (r : Option ℕ) (t' : Table) : Type 0 where
+  pub answer : r ≡ cond (lacks_room w t parent row) None (Some (child_of w t parent row))
   pub memory : t' ≡ cond (lacks_room w t parent row) t (entered w t parent row)
 
 unfoldable pub front_verdict : List ℕ → Table → ℕ → ℕ → List ℕ → ℕ

@@ -1,19 +1,19 @@
 // Entering a subject under a state.
 ghost use Rattle.std.specs.Prelude.{◌≡◌};
+ghost use Rattle.lent.specs.Refusals.{verdict_of};
 ghost use Rattle.typed.specs.Typed.{inputs_row};
 ghost use Rattle.table.specs.Tables.{table};
 ghost use Rattle.entering.specs.Answers.{front_verdict, Enter};
 
-use crate::{Entering, held};
+use crate::held;
 use lent::Refusal;
 use matcher::MatchState;
-use matcher::states::state_verdict;
+use matcher::states::check_state;
 use selector::held::{row_ascends, row_fits};
-use settle::Settled;
 use typed::SelectorInputs;
 
 // 11, 4, 2, 1.
-fn front_verdict(
+fn check_front(
     sheet: &[u32],
     head: &[u32],
     states: &[u32],
@@ -22,20 +22,17 @@ fn front_verdict(
     transitions: &[u32],
     parent: MatchState,
     row: &[u32],
-) -> u32
-    ensures { result ≡ front_verdict sheet.now (table head.now states.now cursors.now matched.now transitions.now) parent.number parent.stamp row.now }
+) -> Result<(), Refusal>
+    ensures { verdict_of result ≡ front_verdict sheet.now (table head.now states.now cursors.now matched.now transitions.now) parent.number parent.stamp row.now }
 {
-    let v = state_verdict(sheet, head, states, cursors, matched, transitions, parent);
-    if v != 0 {
-        return v;
-    }
+    check_state(sheet, head, states, cursors, matched, transitions, parent)?;
     if !row_fits(row, 0, 16) {
-        return 2;
+        return Err(Refusal::OverSize);
     }
     if !row_ascends(row, 0) {
-        return 1;
+        return Err(Refusal::NotAscending);
     }
-    0
+    Ok(())
 }
 
 // `Matcher::enter_subject`
@@ -48,11 +45,11 @@ pub fn enter_subject(
     transitions: &mut [u32],
     parent: MatchState,
     inputs: SelectorInputs,
-) -> Entering
+) -> Result<MatchState, Refusal>
     ensures { Enter sheet.now (table head.old states.old cursors.old matched.old transitions.old) parent.number parent.stamp (inputs_row inputs) result (table head.new states.new cursors.new matched.new transitions.new) }
 {
     let row = inputs.row();
-    let v = front_verdict(
+    check_front(
         sheet,
         head,
         states,
@@ -61,10 +58,7 @@ pub fn enter_subject(
         transitions,
         parent,
         &row,
-    );
-    if v != 0 {
-        return Entering::Refused(Refusal::of(v));
-    }
+    )?;
     let settled = held::enter_subject(
         sheet,
         head,
@@ -75,11 +69,11 @@ pub fn enter_subject(
         parent.number,
         &row,
     );
-    match settled {
-        Settled::At(number) => Entering::Entered(MatchState {
-            number,
-            stamp: parent.stamp,
-        }),
-        Settled::NoRoom => Entering::Refused(Refusal::NoRoom),
-    }
+    let Some(number) = settled else {
+        return Err(Refusal::NoRoom);
+    };
+    Ok(MatchState {
+        number,
+        stamp: parent.stamp,
+    })
 }

@@ -15,7 +15,6 @@ use cached::held::cached;
 use lent::held::list_of;
 use lent::lists::cell;
 use linking::held::keep;
-use settle::Settled;
 use settle::held::settle;
 use table::layout;
 
@@ -30,7 +29,7 @@ fn settle_in(
     row: &[u32],
     next: &mut [u32],
     listed: &mut [u32],
-) -> Settled
+) -> Option<u32>
     requires sheet_value { (sheet_shape sheet.now ≡ true) × Parents sheet.now states.old cursors.old parent }
     requires row_value { tags_ascend (row_at 16 row.now 0) ≡ true }
     requires room { Room sheet.now (cursors_at states.old cursors.old parent) (cursors_at states.old cursors.old 0) (row_at 16 row.now 0) next.old listed.old }
@@ -77,7 +76,7 @@ fn settle_next(
     matched: &mut [u32],
     parent: u32,
     row: &[u32],
-) -> Settled
+) -> Option<u32>
     requires sheet_value { (sheet_shape sheet.now ≡ true) × Parents sheet.now states.old cursors.old parent }
     requires row_value { tags_ascend (row_at 16 row.now 0) ≡ true }
     ensures { (t : List ℕ) → Settles (table head.old states.old cursors.old matched.old t) (next_state sheet.now (table head.old states.old cursors.old matched.old t) parent (row_at 16 row.now 0)) result (table head.new states.new cursors.new matched.new t) }
@@ -112,7 +111,7 @@ fn settle_next(
     )
 }
 
-// Entering the subject of a row under the state with the number `parent`.
+// Entering the subject of a row under the state with the number `parent`: the child's number, none where there is no room.
 pub fn enter_subject(
     sheet: &[u32],
     head: &mut [u32],
@@ -122,22 +121,16 @@ pub fn enter_subject(
     transitions: &mut [u32],
     parent: u32,
     row: &[u32],
-) -> Settled
+) -> Option<u32>
     requires sheet_value { (sheet_shape sheet.now ≡ true) × (table_shape sheet.now (table head.old states.old cursors.old matched.old transitions.old) ≡ true) × (parent < states_in head.old) }
     requires row_value { (row_fits 16 row.now 0 ≡ true) × (tags_ascend (row_at 16 row.now 0) ≡ true) }
     ensures { Enters sheet.now (table head.old states.old cursors.old matched.old transitions.old) parent row.now result (table head.new states.new cursors.new matched.new transitions.new) }
 {
     let children = layout::CHILDREN;
-    let link = cached(head, states, transitions, parent, row);
-    if link != 0 {
-        return Settled::At(cell(transitions, children, link - 1));
+    if let Some(k) = cached(head, states, transitions, parent, row) {
+        return Some(cell(transitions, children, k));
     }
-    let settled = settle_next(sheet, head, states, cursors, matched, parent, row);
-    match settled {
-        Settled::At(child) => {
-            keep(head, states, transitions, parent, child, row);
-            Settled::At(child)
-        }
-        Settled::NoRoom => Settled::NoRoom,
-    }
+    let child = settle_next(sheet, head, states, cursors, matched, parent, row)?;
+    keep(head, states, transitions, parent, child, row);
+    Some(child)
 }

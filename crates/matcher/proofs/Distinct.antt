@@ -1,30 +1,21 @@
 -- Equal numbers told are equal answers, so that the contracts determine the answer. Assumes nothing.
-use mathlib.Core.Path.{◌≡◌, refl, sym, ap, ◌∙◌}
+use mathlib.Core.Path.{◌≡◌, refl, sym, ◌∙◌}
 use mathlib.Core.List.{List}
 use Prim.Native.Nat.{ℕ}
 use lib.ListN.{get_or}
 use denote.Ref.{Bor}
-use Rattle.lent.proofs.Refusals.{read_back, read_refused}
+use Rattle.std.specs.Prelude.{Result}
+use Rattle.lent.specs.declared.Refusal.{Refusal}
+use Rattle.lent.proofs.Refusals.{answer_distinct}
 use Rattle.table.specs.Tables.{Table}
 use Rattle.matcher.specs.Answers.{listing_told, Part, Rules}
-use Rattle.matcher.specs.declared.Listing.{Listing}
 
--- ---- read back
-
-abbrev part_from : List ℕ → Listing
-part_from l = Listing.Part (get_or l 0 0) (get_or l 1 0)
-
-listing_back : (r : Listing) → read_back part_from Listing.Refused (listing_told r) ≡ r
-unfolding read_back
-listing_back (Listing.Part from to) = refl
-listing_back (Listing.Refused r) = read_refused part_from Listing.Refused r
-
-pub listing_distinct : (a b : Listing) → listing_told a ≡ listing_told b → a ≡ b
-listing_distinct a b e = sym (listing_back a) ∙ ap (read_back part_from Listing.Refused) e ∙ listing_back b
+pub listing_distinct : (a b : Result (ℕ × ℕ) Refusal) → listing_told a ≡ listing_told b → a ≡ b
+listing_distinct = answer_distinct _ (λ l. (get_or l 0 0, get_or l 1 0)) (λ p. refl)
 
 -- ---- THEOREM: any two answers that a call's contract allows are equal
 
-pub part_determined : {w : List ℕ} {t : Table} {number stamp : ℕ} {r r' : Listing} → Part w t number stamp r → Part w t number stamp r' → r ≡ r'
+pub part_determined : {w : List ℕ} {t : Table} {number stamp : ℕ} {r r' : Result (ℕ × ℕ) Refusal} → Part w t number stamp r → Part w t number stamp r' → r ≡ r'
 part_determined {r = r} {r' = r'} p q = listing_distinct r r' (p.answer ∙ sym q.answer)
 
 -- the same numbers at the same place

@@ -11,15 +11,15 @@ use denote.Ref.{Bor}
 use borrow.Author.Tests.{lt-ltb, le-ltb, le-leb, lt-leb, eq-eqb, ne_eqb, ltb-true, not-true, not-false}
 use Rattle.theory.proofs.Lists.{le_or_lt, and_right, or_second}
 use Rattle.lent.specs.Pool.{start_of, list_at}
-use Rattle.lent.specs.Refusals.{told, refusal_of, answered, first_of}
+use Rattle.std.specs.Prelude.{Ok, Err}
+use Rattle.lent.specs.Refusals.{number_of, first_of}
 use Rattle.lent.specs.declared.Refusal.{Refusal}
-use Rattle.lent.proofs.Refusals.{first_clear, told_first}
+use Rattle.lent.proofs.Refusals.{first_clear, refusal_number, refused_first}
 use Rattle.sheet.specs.Shape.{sheet_shape}
 use Rattle.table.specs.Tables.{Table, stamp_in, states_in, matched_ends}
 use Rattle.table.specs.Calls.{broken, not_a_state, state_verdict}
 use Rattle.table.proofs.Shaped.{shaped, matched_ends_within}
 use Rattle.matcher.specs.Answers.{Part, Rules}
-use Rattle.matcher.specs.declared.Listing.{Listing}
 
 -- ---- of this table
 
@@ -52,28 +52,27 @@ pub ruleset verdicts = (verdict_broken, verdict_foreign, verdict_there, not-true
 
 -- ---- the answers by it
 
-module _ (w : List ℕ) (t : Table) (number stamp v : ℕ) (e : v ≡ state_verdict w t number stamp) where
-  module _ (h : v ≡ 0 → ⊥) where
+module _ (w : List ℕ) (t : Table) (number stamp : ℕ) where
+  module _ (x : Refusal) (e : number_of x ≡ state_verdict w t number stamp) where
     pub rules_none : (whole part : Bor (List ℕ)) → part.now ≡ [] → part.ref_ptr.0 ≡ whole.ref_ptr.0 → part.ref_ptr.1 ≡ whole.ref_ptr.1 + 4 * 0 → Rules w t number stamp whole part
-    rules_none whole part n k l = record { numbers = rw (← e, ne_eqb v 0 h) n; block = k; place = rw (← e, ne_eqb v 0 h) l }
+    rules_none whole part n k l =
+        let f = ne_eqb (number_of x) 0 (refusal_number x) in
+        record { numbers = rw (← e, f) n; block = k; place = rw (← e, f) l }
 
-    pub listing_refused : (x : Refusal) → x ≡ refusal_of v → (l : List ℕ) → told x ≡ answered (state_verdict w t number stamp) l
+    pub part_refused : Part w t number stamp (Err x)
     unfolding state_verdict
-    listing_refused x f l = rw (f, ← e, ne_eqb v 0 h) (told_first _ v refl e h)
+    part_refused = record { answer = refused_first _ x _ refl e }
 
-    pub part_refused : (x : Refusal) → x ≡ refusal_of v → Part w t number stamp (Listing.Refused x)
-    part_refused x f = record { answer = listing_refused x f _ }
-
-  module _ (z : v ≡ 0) where
-    pub part_found : (from to : ℕ) → from ≡ start_of (matched_ends t.states) number → to ≡ matched_ends t.states number → Part w t number stamp (Listing.Part from to)
-    part_found from to f g = record { answer = rw (← e, z, f, g) }
+  module _ (e : 0 ≡ state_verdict w t number stamp) where
+    pub part_found : (from to : ℕ) → from ≡ start_of (matched_ends t.states) number → to ≡ matched_ends t.states number → Part w t number stamp (Ok (from, to))
+    part_found from to f g = record { answer = rw (← e, f, g) }
 
     -- an accepted state's list stands within the buffer
     module _ (from a to b : ℕ) (f : from ≡ a) (i : a ≡ start_of (matched_ends t.states) number) (g : to ≡ b) (j : b ≡ matched_ends t.states number) where
       within : (from ≤ to) × (to ≤ length t.matched)
       unfolding state_verdict broken not_a_state
       within =
-          let (c, r) = first_clear 11 (broken w t) _ (omega arith) (sym e ∙ z) in
+          let (c, r) = first_clear 11 (broken w t) _ (omega arith) (sym e) in
           let (d, _) = first_clear 4 (not_a_state t.head number stamp) _ (omega arith) r in
           let s = shaped w t (and_right (sheet_shape w) _ (not-false _ c)) in
           let l = ltb-true number (states_in t.head) (not-false _ (or_second (not (eqb stamp (stamp_in t.head))) _ d)) in
@@ -88,4 +87,4 @@ module _ (w : List ℕ) (t : Table) (number stamp v : ℕ) (e : v ≡ state_verd
       pub rules_found : (whole part : Bor (List ℕ)) → part.now ≡ take (to - from) (drop from t.matched) → part.ref_ptr.0 ≡ whole.ref_ptr.0 → part.ref_ptr.1 ≡ whole.ref_ptr.1 + 4 * from
           → Rules w t number stamp whole part
       unfolding list_at
-      rules_found whole part n k l = record { numbers = rw (← e, z, ← j, ← g, ← i, ← f) n; block = k; place = rw (← e, z, ← i, ← f) l }
+      rules_found whole part n k l = record { numbers = rw (← e, ← j, ← g, ← i, ← f) n; block = k; place = rw (← e, ← i, ← f) l }

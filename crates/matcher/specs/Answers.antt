@@ -1,22 +1,21 @@
 -- What the calls on a table's states answer. Assumes nothing.
-use Rattle.std.specs.Prelude.{◌≡◌, cond, List, [], ◌∷◌, ℕ, ◌+◌, ◌*◌, eqb}
+use Rattle.std.specs.Prelude.{◌≡◌, cond, List, [], ◌∷◌, ℕ, ◌+◌, ◌*◌, eqb, Result}
 use Rattle.std.specs.Borrow.{Bor}
 use Rattle.lent.specs.Pool.{start_of}
-use Rattle.lent.specs.Refusals.{told, answered}
+use Rattle.lent.specs.declared.Refusal.{Refusal}
+use Rattle.lent.specs.Refusals.{answered, answer_told}
 use Rattle.table.specs.Tables.{Table, matched_ends, matched_at}
 use Rattle.table.specs.Calls.{state_verdict}
-use Rattle.matcher.specs.declared.Listing.{Listing}
 
 -- ---- the answer as numbers: 0 and what is told, or a refusal's own number
 
-abbrev pub listing_told : Listing → List ℕ
-listing_told (Listing.Part from to) = 0 ∷ from ∷ to ∷ []
-listing_told (Listing.Refused r) = told r
+abbrev pub listing_told : Result (ℕ × ℕ) Refusal → List ℕ
+listing_told r = answer_told (λ p. p.0 ∷ p.1 ∷ []) r
 
 -- ---- a state's matched rules
 
 -- where they stand in the buffer: from, up to
-pub record Part (w : List ℕ) (t : Table) (number stamp : ℕ) (r : Listing) : Type 0 where
+pub record Part (w : List ℕ) (t : Table) (number stamp : ℕ) (r : Result (ℕ × ℕ) Refusal) : Type 0 where
   pub answer : listing_told r ≡ answered (state_verdict w t number stamp) (0 ∷ start_of (matched_ends t.states) number ∷ matched_ends t.states number ∷ [])
 
 -- "handed back as the part of the lent buffer that holds it"; nothing, at the buffer's own place, where the state is refused.

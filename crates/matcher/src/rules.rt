@@ -2,14 +2,14 @@
 ghost use Rattle.table.specs.Tables.{table};
 ghost use Rattle.matcher.specs.Answers.{Part, Rules};
 
-use crate::states::state_verdict;
-use crate::{Listing, MatchState};
+use crate::MatchState;
+use crate::states::check_state;
 use lent::Refusal;
 use lent::lists::{cell, start_of};
 use lent::words::wide;
 use table::layout;
 
-// Where the state's matched rules stand in `matched`.
+// Where the state's matched rules stand in `matched`: from, up to.
 pub fn matching_part(
     sheet: &[u32],
     head: &[u32; 8],
@@ -18,18 +18,15 @@ pub fn matching_part(
     matched: &[u32],
     transitions: &[u32],
     state: MatchState,
-) -> Listing
+) -> Result<(u32, u32), Refusal>
     ensures { Part sheet.now (table head.now states.now cursors.now matched.now transitions.now) state.number state.stamp result }
 {
-    let v = state_verdict(sheet, head, states, cursors, matched, transitions, state);
-    if v != 0 {
-        return Listing::Refused(Refusal::of(v));
-    }
+    check_state(sheet, head, states, cursors, matched, transitions, state)?;
     let ends = layout::MATCHED_ENDS;
-    Listing::Part(
+    Ok((
         start_of(states, ends, state.number),
         cell(states, ends, state.number),
-    )
+    ))
 }
 
 // `Matcher::matching_rules`: the part of `matched` that holds them; none where the state is refused.
@@ -44,10 +41,9 @@ pub fn matching_rules<'a>(
 ) -> &'a [u32]
     ensures { Rules sheet.now (table head.now states.now cursors.now matched.now transitions.now) state.number state.stamp matched.entry result }
 {
-    let v = state_verdict(sheet, head, states, cursors, matched, transitions, state);
-    if v != 0 {
+    let Ok(()) = check_state(sheet, head, states, cursors, matched, transitions, state) else {
         return &matched[0..0];
-    }
+    };
     let ends = layout::MATCHED_ENDS;
     let from = wide(start_of(states, ends, state.number));
     let to = wide(cell(states, ends, state.number));

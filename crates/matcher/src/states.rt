@@ -1,9 +1,11 @@
 // Whether a state is one of a table.
 ghost use Rattle.std.specs.Prelude.{◌≡◌};
+ghost use Rattle.lent.specs.Refusals.{verdict_of};
 ghost use Rattle.table.specs.Tables.{table};
 ghost use Rattle.table.specs.Calls.{not_a_state, state_verdict};
 
 use crate::MatchState;
+use lent::Refusal;
 use lent::words::word;
 use table::layout;
 use table::shape::is_table;
@@ -19,7 +21,7 @@ pub fn not_a_state(head: &[u32], state: MatchState) -> bool
 }
 
 // 11, 4.
-pub fn state_verdict(
+pub fn check_state(
     sheet: &[u32],
     head: &[u32],
     states: &[u32],
@@ -27,14 +29,14 @@ pub fn state_verdict(
     matched: &[u32],
     transitions: &[u32],
     state: MatchState,
-) -> u32
-    ensures { result ≡ state_verdict sheet.now (table head.now states.now cursors.now matched.now transitions.now) state.number state.stamp }
+) -> Result<(), Refusal>
+    ensures { verdict_of result ≡ state_verdict sheet.now (table head.now states.now cursors.now matched.now transitions.now) state.number state.stamp }
 {
     if !is_table(sheet, head, states, cursors, matched, transitions) {
-        return 11;
+        return Err(Refusal::BrokenShape);
     }
     if not_a_state(head, state) {
-        return 4;
+        return Err(Refusal::NotAState);
     }
-    0
+    Ok(())
 }

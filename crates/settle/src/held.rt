@@ -5,7 +5,6 @@ ghost use Rattle.table.specs.Entering.{room_for, grown};
 ghost use Rattle.finding.specs.States.{state};
 ghost use Rattle.settle.specs.Settling.{Settles};
 
-use crate::Settled;
 use finding::held::{number_for, room_for};
 use lent::lists::address;
 use lent::words::{copy_into, wide, word};
@@ -35,7 +34,7 @@ fn grow(
     copy_into(head, layout::STATES, &[count, cursor_end, matched_end]);
 }
 
-// The number of the state with these lists: of an equal one, or of a new one.
+// The number of the state with these lists: of an equal one, or of a new one. None where there is no room.
 pub fn settle(
     head: &mut [u32],
     states: &mut [u32],
@@ -43,13 +42,13 @@ pub fn settle(
     matched: &mut [u32],
     next: &[u32],
     listed: &[u32],
-) -> Settled
+) -> Option<u32>
     ensures { (t : List ℕ) → Settles (table head.old states.old cursors.old matched.old t) (state next.now listed.now) result (table head.new states.new cursors.new matched.new t) }
 {
     let n = word(head, layout::STATES);
     let k = number_for(states, cursors, matched, n, next, listed);
     if k < n {
-        return Settled::At(k);
+        return Some(k);
     }
     if !room_for(
         head,
@@ -59,8 +58,8 @@ pub fn settle(
         next,
         listed,
     ) {
-        return Settled::NoRoom;
+        return None;
     }
     grow(head, states, cursors, matched, next, listed);
-    Settled::At(k)
+    Some(k)
 }

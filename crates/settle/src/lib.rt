@@ -2,10 +2,3 @@
 #![tactic(auto)]
 
 pub mod held;
-
-// Where a state stands.
-#[derive(Clone, Copy)]
-pub enum Settled {
-    At(u32),
-    NoRoom,
-}

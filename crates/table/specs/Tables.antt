@@ -1,5 +1,5 @@
 -- A lent table, and the states and transitions that its words hold: 01, "States". Assumes nothing.
-use Rattle.std.specs.Prelude.{List, map, ℕ, ◌+◌, ◌*◌, get_or}
+use Rattle.std.specs.Prelude.{List, map, ℕ, zero, suc, ◌+◌, ◌*◌, get_or, Option, Some, None}
 use Rattle.theory.specs.States.{Sheet, State}
 use Rattle.lent.specs.Pool.{ends_in, list_at}
 use Rattle.selector.specs.Tags.{Tags}
@@ -74,6 +74,11 @@ state_at t k = record { cursors = cursors_at t.states t.cursors k; matched = mat
 -- A link is a transition's number plus one; 0 links to none
 abbrev pub first_link : List ℕ → ℕ → ℕ
 first_link states k = ends_in states FIRST-LINK STATE-WORDS k
+
+-- the transition that a link leads to
+unfoldable pub linked : ℕ → Option ℕ
+linked zero = None
+linked (suc k) = Some k
 
 -- ---- rows of transitions: the parent, the child, the link to the parent's next one, and the subject's row
 

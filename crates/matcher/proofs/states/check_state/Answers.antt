@@ -1,6 +1,6 @@
 use borrow.Author.Rules.{rules}
 use Rattle.matcher.proofs.Listed.{verdicts}
-use Rattle.matcher.proofs.states.state_verdict.Goals as goal
+use Rattle.matcher.proofs.states.check_state.Goals as goal
 
 pub returns-then-not-is_table : goal.returns-then-not-is_table
 returns-then-not-is_table c = search (verdicts, rules)
