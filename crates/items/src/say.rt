@@ -34,10 +34,8 @@ pub fn numbers(out: &mut [u8], at: usize, list: &[u32]) -> usize
     ensures { SaidNumbers list.now out.old at result out.new }
 {
     let mut used = at;
-    let mut i = 0;
-    while i < list.len() {
-        used = number(out, used, list[i]);
-        i += 1;
+    for n in list {
+        used = number(out, used, *n);
     }
     used
 }

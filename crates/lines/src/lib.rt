@@ -4,6 +4,8 @@
 ghost use Rattle.std.specs.Prelude.{◌≡◌, ◌<◌, get_or};
 ghost use Rattle.lines.specs.Text.{Laid, LaidNumber, word_at, Read};
 
+use std::cmp::min;
+
 // `words` from `at` on, or nothing where it has no room; where the next text goes.
 pub fn text(out: &mut [u8], at: usize, words: &[u8]) -> usize
     ensures { Laid words.now out.old at result out.new }
@@ -14,12 +16,9 @@ pub fn text(out: &mut [u8], at: usize, words: &[u8]) -> usize
     if out.len() - at < words.len() {
         return at;
     }
-    let mut i = 0;
-    while i < words.len() {
-        out[at + i] = words[i];
-        i += 1;
-    }
-    at + words.len()
+    let next = at + words.len();
+    out[at..next].copy_from_slice(words);
+    next
 }
 
 // A number in decimal, in as few digits as hold it.
@@ -60,13 +59,9 @@ pub fn word(bytes: &[u8], at: usize) -> u32
 pub fn words(bytes: &[u8], into: &mut [u32]) -> usize
     ensures { Read bytes.now into.old result into.new }
 {
-    let mut i = 0;
-    while i < into.len() {
-        if bytes.len() / 4 <= i {
-            return i;
-        }
+    let n = min(bytes.len() / 4, into.len());
+    for i in 0..n {
         into[i] = word(bytes, i * 4);
-        i += 1;
     }
-    i
+    n
 }

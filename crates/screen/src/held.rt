@@ -9,13 +9,8 @@ pub fn shift(input: &mut [u8], at: usize) -> usize
     requires { at ≤ length input.old }
     ensures { (result ≡ length input.old - at) × (input.new ≡ sets input.old 0 (drop at input.old)) }
 {
-    let left = input.len() - at;
-    let mut i = 0;
-    while i < left {
-        input[i] = input[at + i];
-        i += 1;
-    }
-    left
+    input.copy_within(at.., 0);
+    input.len() - at
 }
 
 // Reads on after the `have` bytes at hand, until the buffer is full or the input ends; how many are at hand then.

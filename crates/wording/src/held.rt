@@ -39,11 +39,9 @@ fn spaced(out: &mut [u8], at: usize, list: &[u32]) -> usize
     ensures { Said (spaced list.now) out.old at result out.new × (result ≤ at + 21 * length list.now) }
 {
     let mut used = at;
-    let mut i = 0;
-    while i < list.len() {
+    for n in list {
         let next = text(out, used, b" ");
-        used = small(out, next, list[i]);
-        i += 1;
+        used = small(out, next, *n);
     }
     used
 }

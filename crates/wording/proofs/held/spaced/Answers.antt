@@ -4,11 +4,11 @@ use Rattle.wording.proofs.held.spaced.Goals as goal
 
 -- `wording::held::spaced` meets its contract. Assumes nothing.
 
-pub loop-i-init : goal.loop-i-init
-loop-i-init c = spacing_start _ _ _
+pub loop-n-init : goal.loop-n-init
+loop-n-init c = spacing_start _ _ _
 
-pub loop-i-preserved : goal.loop-i-preserved
-loop-i-preserved c = search (spacing_one, rules)
+pub loop-n-preserved : goal.loop-n-preserved
+loop-n-preserved c = search (spacing_one, rules)
 
 pub returns : goal.returns
 returns c = search (spacing_end, rules)
