@@ -1,22 +1,21 @@
 // What changes from one state to another: the properties, and the channels.
 ghost use Rattle.std.specs.Prelude.{◌≡◌, [], ◌∷◌};
-ghost use Rattle.lent.specs.Refusals.{answered};
+ghost use Rattle.lent.specs.Refusals.{answered, verdict_of};
 ghost use Rattle.table.specs.Tables.{table};
 ghost use Rattle.channels.specs.Channels.{channels_of};
 ghost use Rattle.changeset.specs.Sets.{Lists};
 ghost use Rattle.cascade.specs.Calls.{pair_verdict, changed_verdict, changed_in};
 ghost use Rattle.cascade.specs.Answers.{channels_told};
 
-use crate::{Channels, held};
-use changeset::Changing;
-use channels::affected_channels;
+use crate::held;
+use channels::{ChannelSet, affected_channels};
 use lent::Refusal;
 use lent::words::copy_halves_into;
 use matcher::MatchState;
-use matcher::states::{not_a_state, state_verdict};
+use matcher::states::{check_state, not_a_state};
 
 // 11, 4 for the old state, 4 for the new one.
-fn pair_verdict(
+fn check_pair(
     sheet: &[u32],
     head: &[u32],
     states: &[u32],
@@ -25,17 +24,14 @@ fn pair_verdict(
     transitions: &[u32],
     old: MatchState,
     new: MatchState,
-) -> u32
-    ensures { result ≡ pair_verdict sheet.now (table head.now states.now cursors.now matched.now transitions.now) old.number old.stamp new.number new.stamp }
+) -> Result<(), Refusal>
+    ensures { verdict_of result ≡ pair_verdict sheet.now (table head.now states.now cursors.now matched.now transitions.now) old.number old.stamp new.number new.stamp }
 {
-    let v = state_verdict(sheet, head, states, cursors, matched, transitions, old);
-    if v != 0 {
-        return v;
-    }
+    check_state(sheet, head, states, cursors, matched, transitions, old)?;
     if not_a_state(head, new) {
-        return 4;
+        return Err(Refusal::NotAState);
     }
-    0
+    Ok(())
 }
 
 // `StyleCascade::changed_properties`
@@ -49,13 +45,10 @@ pub fn changed_properties(
     old: MatchState,
     new: MatchState,
     out: &mut [u16],
-) -> Changing
+) -> Result<usize, Refusal>
     ensures { Lists (changed_verdict sheet.now (table head.now states.now cursors.now matched.now transitions.now) old.number old.stamp new.number new.stamp out.old) (changed_in sheet.now (table head.now states.now cursors.now matched.now transitions.now) old.number new.number) out.old result out.new }
 {
-    let v = pair_verdict(sheet, head, states, cursors, matched, transitions, old, new);
-    if v != 0 {
-        return Changing::Refused(Refusal::of(v));
-    }
+    check_pair(sheet, head, states, cursors, matched, transitions, old, new)?;
     let mut list = [0u16; 4096];
     let n = held::changed_properties(
         sheet,
@@ -69,10 +62,10 @@ pub fn changed_properties(
         &mut list,
     );
     if out.len() < n {
-        return Changing::Refused(Refusal::BufferTooShort);
+        return Err(Refusal::BufferTooShort);
     }
     copy_halves_into(out, 0, &list[..n]);
-    Changing::Listed(n)
+    Ok(n)
 }
 
 // `StyleCascade::changed_channels`: mask p is that of property p.
@@ -86,13 +79,10 @@ pub fn changed_channels(
     masks: &[u32],
     old: MatchState,
     new: MatchState,
-) -> Channels
+) -> Result<ChannelSet, Refusal>
     ensures { channels_told result ≡ answered (pair_verdict sheet.now (table head.now states.now cursors.now matched.now transitions.now) old.number old.stamp new.number new.stamp) (0 ∷ channels_of masks.now (changed_in sheet.now (table head.now states.now cursors.now matched.now transitions.now) old.number new.number) ∷ []) }
 {
-    let v = pair_verdict(sheet, head, states, cursors, matched, transitions, old, new);
-    if v != 0 {
-        return Channels::Refused(Refusal::of(v));
-    }
+    check_pair(sheet, head, states, cursors, matched, transitions, old, new)?;
     let mut list = [0u16; 4096];
     let n = held::changed_properties(
         sheet,
@@ -105,5 +95,5 @@ pub fn changed_channels(
         new.number,
         &mut list,
     );
-    Channels::Set(affected_channels(&list[..n], masks))
+    Ok(affected_channels(&list[..n], masks))
 }

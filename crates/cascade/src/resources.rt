@@ -4,17 +4,16 @@ ghost use Rattle.changes.specs.Changes.{resource_dependent};
 ghost use Rattle.cascade.specs.Calls.{resource_verdict};
 
 use changes::held::resources;
-use changeset::Changing;
 use changeset::held::list;
 use lent::Refusal;
 use sheet::shape::is_sheet;
 
 // `StyleCascade::resource_dependent_properties`: in any source, matched or not.
-pub fn resource_dependent_properties(sheet: &[u32], out: &mut [u16]) -> Changing
+pub fn resource_dependent_properties(sheet: &[u32], out: &mut [u16]) -> Result<usize, Refusal>
     ensures { Lists (resource_verdict sheet.now out.old) (resource_dependent sheet.now) out.old result out.new }
 {
     if !is_sheet(sheet) {
-        return Changing::Refused(Refusal::BrokenShape);
+        return Err(Refusal::BrokenShape);
     }
     let mut marks = [0u32; 2048];
     resources(sheet, &mut marks);

@@ -11,9 +11,10 @@ use lib.Seq.{sets-eq, take_at}
 use borrow.Author.Tests.{ltb-false}
 use Rattle.theory.specs.Lists.{◌∈◌, Ascending}
 use Rattle.theory.proofs.Lists.{append_in, sort_in, sort_ascending}
+use Rattle.std.specs.Prelude.{Result, Ok}
+use Rattle.lent.specs.declared.Refusal.{Refusal}
 use Rattle.lent.proofs.Refusals.{first_clear}
 use Rattle.changeset.specs.Sets.{Lists, too_short, set_of, union_of, set_verdict}
-use Rattle.changeset.specs.declared.Changing.{Changing}
 use Rattle.changeset.proofs.Distinct.{changing_distinct}
 
 -- ---- THEOREM: "sorted and made unique"
@@ -27,13 +28,13 @@ union_is a n b m = (sort_ascending (take n a ++ take m b), λ c. Iff.trans (sort
 
 -- ---- THEOREM: an accepted call leaves its set in the buffer, as many ids as it answers,
 
-pub set_stands : (ids : List ℕ) (n : ℕ) (out : List ℕ) {r : Changing} {after : List ℕ} → set_verdict ids n out ≡ 0
-    → Lists (set_verdict ids n out) (set_of ids n) out r after → (r ≡ Changing.Listed (length (set_of ids n))) × (take (length (set_of ids n)) after ≡ set_of ids n)
+pub set_stands : (ids : List ℕ) (n : ℕ) (out : List ℕ) {r : Result ℕ Refusal} {after : List ℕ} → set_verdict ids n out ≡ 0
+    → Lists (set_verdict ids n out) (set_of ids n) out r after → (r ≡ Ok (length (set_of ids n))) × (take (length (set_of ids n)) after ≡ set_of ids n)
 unfolding set_verdict
 set_stands ids n out {r} z s =
     let l = set_of ids n in
     let room = ltb-false (length out) (length l) (first_clear 8 _ [] (omega arith) (first_clear 2 _ (too_short l out ∷ []) (omega arith) z).1).0 in
-    (changing_distinct r (Changing.Listed (length l)) (rw z at s.answer), rw (rw z at s.memory, sets-eq l out 0 (rw zero-add room)) (take_at l _ (length l) refl))
+    (changing_distinct r (Ok (length l)) (rw z at s.answer), rw (rw z at s.memory, sets-eq l out 0 (rw zero-add room)) (take_at l _ (length l) refl))
 
 -- ---- and the union of two such buffers lists the ids that were given for either
 

@@ -1,23 +1,17 @@
 -- Change sets: lists of property ids, ascending and each once, in lent half words. Assumes nothing.
-use Rattle.std.specs.Prelude.{◌≡◌, cond, List, [], ◌∷◌, ◌++◌, ℕ, length, take, ltb, eqb}
+use Rattle.std.specs.Prelude.{◌≡◌, cond, List, [], ◌∷◌, ◌++◌, ℕ, length, take, ltb, eqb, Bool, Result}
 use Rattle.std.proofs.lemmas.List.Edits.{sets}
 use Rattle.theory.specs.Lists.{sort}
-use Rattle.lent.specs.Refusals.{told, answered, Check, check, first_of}
-use Rattle.changeset.specs.declared.Changing.{Changing}
-use Rattle.changeset.specs.declared.Changing.TheVariants as changing
-use Rattle.changeset.specs.declared.Emptiness.{Emptiness}
-use Rattle.changeset.specs.declared.Emptiness.TheVariants as emptiness
+use Rattle.lent.specs.Refusals.{number_told, yes_told, answered, Check, check, first_of}
+use Rattle.lent.specs.declared.Refusal.{Refusal}
 
 -- ---- the answers as numbers: 0 and what is told, or a refusal's own number
 
-abbrev pub changing_told : Changing → List ℕ
-changing_told (changing.Listed n) = 0 ∷ n ∷ []
-changing_told (changing.Refused r) = told r
+abbrev pub changing_told : Result ℕ Refusal → List ℕ
+changing_told = number_told
 
-abbrev pub emptiness_told : Emptiness → List ℕ
-emptiness_told emptiness.Yes = 0 ∷ 1 ∷ []
-emptiness_told emptiness.No = 0 ∷ 0 ∷ []
-emptiness_told (emptiness.Refused r) = told r
+abbrev pub emptiness_told : Result Bool Refusal → List ℕ
+emptiness_told = yes_told
 
 -- ---- refusals
 
@@ -30,7 +24,7 @@ abbrev pub too_short : List ℕ → List ℕ → Check
 too_short list out = check 8 (ltb (length out) (length list))
 
 -- ---- a list written into a lent buffer: how many there are, and the buffer after; "An accepted call leaves what stands past its answer"
-pub record Lists (verdict : ℕ) (list before : List ℕ) (r : Changing) (after : List ℕ) : Type 0 where
+pub record Lists (verdict : ℕ) (list before : List ℕ) (r : Result ℕ Refusal) (after : List ℕ) : Type 0 where
   pub answer : changing_told r ≡ answered verdict (0 ∷ length list ∷ [])
   pub memory : after ≡ cond (eqb verdict 0) (sets before 0 list) before
 

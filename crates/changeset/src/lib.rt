@@ -9,26 +9,12 @@ use lent::Refusal;
 
 pub mod held;
 
-// How many properties are listed.
-#[derive(Clone, Copy)]
-pub enum Changing {
-    Listed(usize),
-    Refused(Refusal),
-}
-
-#[derive(Clone, Copy)]
-pub enum Emptiness {
-    Yes,
-    No,
-    Refused(Refusal),
-}
-
-// `StyleChangeSet::from_property_ids`: the first `count` ids, in any order and repeated, as a set.
-pub fn from_property_ids(ids: &[u16], count: usize, out: &mut [u16]) -> Changing
+// `StyleChangeSet::from_property_ids`: the first `count` ids, in any order and repeated, as a set. How many are listed.
+pub fn from_property_ids(ids: &[u16], count: usize, out: &mut [u16]) -> Result<usize, Refusal>
     ensures { Lists (set_verdict ids.now count out.old) (set_of ids.now count) out.old result out.new }
 {
     if ids.len() < count {
-        return Changing::Refused(Refusal::OverSize);
+        return Err(Refusal::OverSize);
     }
     let mut marks = [0u32; 2048];
     held::mark_all(&ids[..count], &mut marks);
@@ -36,14 +22,14 @@ pub fn from_property_ids(ids: &[u16], count: usize, out: &mut [u16]) -> Changing
 }
 
 // `StyleChangeSet::union`
-pub fn union(a: &[u16], n: usize, b: &[u16], m: usize, out: &mut [u16]) -> Changing
+pub fn union(a: &[u16], n: usize, b: &[u16], m: usize, out: &mut [u16]) -> Result<usize, Refusal>
     ensures { Lists (union_verdict a.now n b.now m out.old) (union_of a.now n b.now m) out.old result out.new }
 {
     if a.len() < n {
-        return Changing::Refused(Refusal::OverSize);
+        return Err(Refusal::OverSize);
     }
     if b.len() < m {
-        return Changing::Refused(Refusal::OverSize);
+        return Err(Refusal::OverSize);
     }
     let mut both = [0u32; 2048];
     held::mark_all(&a[..n], &mut both);
@@ -52,26 +38,23 @@ pub fn union(a: &[u16], n: usize, b: &[u16], m: usize, out: &mut [u16]) -> Chang
 }
 
 // `StyleChangeSet::len`, of the set that the first n ids are.
-pub fn len(ids: &[u16], n: usize) -> Changing
+pub fn len(ids: &[u16], n: usize) -> Result<usize, Refusal>
     ensures { changing_told result ≡ answered (count_verdict ids.now n) (0 ∷ length (set_of ids.now n) ∷ []) }
 {
     if ids.len() < n {
-        return Changing::Refused(Refusal::OverSize);
+        return Err(Refusal::OverSize);
     }
     let mut marks = [0u32; 2048];
     held::mark_all(&ids[..n], &mut marks);
-    Changing::Listed(held::count(&marks))
+    Ok(held::count(&marks))
 }
 
 // `StyleChangeSet::is_empty`
-pub fn is_empty(ids: &[u16], count: usize) -> Emptiness
+pub fn is_empty(ids: &[u16], count: usize) -> Result<bool, Refusal>
     ensures { emptiness_told result ≡ answered (count_verdict ids.now count) (0 ∷ one_if (eqb (length (set_of ids.now count)) 0) ∷ []) }
 {
     if ids.len() < count {
-        return Emptiness::Refused(Refusal::OverSize);
+        return Err(Refusal::OverSize);
     }
-    if count == 0 {
-        return Emptiness::Yes;
-    }
-    Emptiness::No
+    Ok(count == 0)
 }

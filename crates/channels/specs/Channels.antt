@@ -1,10 +1,8 @@
 -- Channels: 01, "Weight, winners, changes". A mask names the channels that its bits are. Assumes nothing.
-use Rattle.std.specs.Prelude.{◌≡◌, refl, true, List, [], ◌∷◌, ℕ, get_or}
+use Rattle.std.specs.Prelude.{◌≡◌, refl, true, List, [], ◌∷◌, ℕ, get_or, Option, Some, None}
 use Rattle.std.specs.Int.Bits.{bit_or}
 use Rattle.theory.specs.Lists.{◌∈◌, select}
 use Rattle.bits.specs.Bits.{bit, bits_in}
-use Rattle.channels.specs.declared.Lowest.{Lowest}
-use Rattle.channels.specs.declared.Lowest.TheVariants as lowest
 
 -- "The channel set is the union of the u32 masks of the changed properties, from a lent table by id; past its end the mask is 0"
 unfoldable pub channels_of : List ℕ → List ℕ → ℕ
@@ -16,9 +14,9 @@ abbrev pub Named : List ℕ → List ℕ → ℕ → Type 0
 Named masks ids k = (p : ℕ) × (p ∈ ids) × (bit (get_or masks p 0) k ≡ true)
 
 -- "Report .. which is lowest; with none there is no lowest": 1 and the channel, or 0
-abbrev pub lowest_told : Lowest → List ℕ
-lowest_told (lowest.Channel k) = 1 ∷ k ∷ []
-lowest_told lowest.Nothing = 0 ∷ []
+abbrev pub lowest_told : Option ℕ → List ℕ
+lowest_told (Some k) = 1 ∷ k ∷ []
+lowest_told None = 0 ∷ []
 
 abbrev pub lowest_of : List ℕ → List ℕ
 lowest_of [] = 0 ∷ []

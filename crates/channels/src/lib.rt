@@ -8,14 +8,8 @@ ghost use Rattle.channels.specs.Channels.{channels_of, lowest_told, lowest_of};
 use lent::words::word;
 
 // A channel for each bit.
-#[derive(Clone, Copy)]
+#[derive(Clone, Copy, Debug, PartialEq, Eq)]
 pub struct ChannelSet(pub u32);
-
-#[derive(Clone, Copy)]
-pub enum Lowest {
-    Channel(u32),
-    Nothing,
-}
 
 impl ChannelSet {
     pub const EMPTY: ChannelSet = ChannelSet(0);
@@ -43,13 +37,13 @@ impl ChannelSet {
     }
 
     // The lowest channel that it names.
-    pub fn lowest(self) -> Lowest
+    pub fn lowest(self) -> Option<u32>
         ensures { lowest_told result ≡ lowest_of (bits_in self.0) }
     {
         if self.0 == 0 {
-            return Lowest::Nothing;
+            return None;
         }
-        Lowest::Channel(u32::trailing_zeros(self.0))
+        Some(u32::trailing_zeros(self.0))
     }
 }
 

@@ -10,7 +10,7 @@ use selector::Specificity;
 
 pub mod held;
 
-#[derive(Clone, Copy)]
+#[derive(Clone, Copy, Debug, PartialEq, Eq, PartialOrd, Ord)]
 pub struct CascadeEntryKey {
     pub origin: u32,
     pub specificity: Specificity,

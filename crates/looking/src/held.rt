@@ -22,7 +22,7 @@ pub fn winning_source(
     transitions: &[u32],
     number: u32,
     property: u16,
-) -> Best
+) -> Option<Best>
     requires sheet_value { (sheet_shape sheet.now ≡ true) × (table_shape sheet.now (table head.now states.now cursors.now matched.now transitions.now) ≡ true) }
     requires number_bound { number < states_in head.now }
     ensures { Stands sheet.now (ranking_in head.now) property (winner_in sheet.now (table head.now states.now cursors.now matched.now transitions.now) number property) result }

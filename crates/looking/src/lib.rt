@@ -1,16 +1,12 @@
 // The look-ups of a table's states: the winner of a property, and what it says. The look-ups of `StyleCascade` of matcher.rs.
 #![tactic(auto)]
 
-use lent::Refusal;
-
 pub mod held;
 pub mod look;
 
-// The source that wins: its number among the direct styles or the rules, and its source index. `StyleSourceRef` of matcher.rs.
-#[derive(Clone, Copy)]
-pub enum Winning {
-    Nobody,
+// The source that wins: its number among the direct styles or the rules, and its source index.
+#[derive(Clone, Copy, Debug, PartialEq, Eq)]
+pub enum StyleSourceRef {
     Direct(u32, u32),
     Rule(u32, u32),
-    Refused(Refusal),
 }

@@ -10,14 +10,14 @@ ghost use Rattle.winners.specs.Best.{Finds};
 ghost use Rattle.looking.specs.Calls.{winner_in, entry_in};
 ghost use Rattle.looking.specs.Answers.{winning_told, winner_told};
 
-use crate::{Winning, held};
+use crate::{StyleSourceRef, held};
 use lent::Refusal;
 use matcher::MatchState;
-use matcher::states::state_verdict;
+use matcher::states::check_state;
 use style::held::kind_of;
-use style::{ResourceKey, StyleValueKind, StyleValueRef};
+use style::{StyleValueKind, StyleValueRef};
 use winners::held::entry;
-use winners::{Best, Found};
+use winners::{Found, Source};
 
 // `StyleCascade::winning_source_for_id`
 pub fn winning_source_for_id(
@@ -29,13 +29,10 @@ pub fn winning_source_for_id(
     transitions: &[u32],
     state: MatchState,
     property: u16,
-) -> Winning
+) -> Result<Option<StyleSourceRef>, Refusal>
     ensures { winning_told result ≡ answered (state_verdict sheet.now (table head.now states.now cursors.now matched.now transitions.now) state.number state.stamp) (winner_told sheet.now (winner_in sheet.now (table head.now states.now cursors.now matched.now transitions.now) state.number property)) }
 {
-    let v = state_verdict(sheet, head, states, cursors, matched, transitions, state);
-    if v != 0 {
-        return Winning::Refused(Refusal::of(v));
-    }
+    check_state(sheet, head, states, cursors, matched, transitions, state)?;
     let best = held::winning_source(
         sheet,
         head,
@@ -46,11 +43,14 @@ pub fn winning_source_for_id(
         state.number,
         property,
     );
-    match best {
-        Best::Nobody => Winning::Nobody,
-        Best::Style(d, key) => Winning::Direct(d, key.source_index),
-        Best::Rule(r, key) => Winning::Rule(r, key.source_index),
-    }
+    let Some(best) = best else {
+        return Ok(None);
+    };
+    let index = best.key.source_index;
+    Ok(Some(match best.source {
+        Source::Style(d) => StyleSourceRef::Direct(d, index),
+        Source::Rule(r) => StyleSourceRef::Rule(r, index),
+    }))
 }
 
 // The winner's own entry.
@@ -63,7 +63,7 @@ fn winning_entry(
     transitions: &[u32],
     number: u32,
     property: u16,
-) -> Found
+) -> Option<Found>
     requires sheet_value { (sheet_shape sheet.now ≡ true) × (table_shape sheet.now (table head.now states.now cursors.now matched.now transitions.now) ≡ true) }
     requires number_bound { number < states_in head.now }
     ensures { Finds (entry_in sheet.now (table head.now states.now cursors.now matched.now transitions.now) number property) result }
@@ -91,13 +91,10 @@ pub fn value_kind(
     transitions: &[u32],
     state: MatchState,
     property: u16,
-) -> StyleValueKind
+) -> Result<Option<StyleValueKind>, Refusal>
     ensures { kind_told result ≡ answered (state_verdict sheet.now (table head.now states.now cursors.now matched.now transitions.now) state.number state.stamp) (kind_of (entry_in sheet.now (table head.now states.now cursors.now matched.now transitions.now) state.number property)) }
 {
-    let v = state_verdict(sheet, head, states, cursors, matched, transitions, state);
-    if v != 0 {
-        return StyleValueKind::Refused(Refusal::of(v));
-    }
+    check_state(sheet, head, states, cursors, matched, transitions, state)?;
     let found = winning_entry(
         sheet,
         head,
@@ -109,8 +106,8 @@ pub fn value_kind(
         property,
     );
     match found {
-        Found::Entry(kind, number) => kind_of(kind, number),
-        Found::Nothing => StyleValueKind::Absent,
+        Some(Found { kind, number }) => kind_of(kind, number),
+        None => Ok(None),
     }
 }
 
@@ -124,10 +121,10 @@ pub fn get_entry_ref(
     transitions: &[u32],
     state: MatchState,
     property: u16,
-) -> StyleValueRef
+) -> Result<Option<StyleValueRef>, Refusal>
     ensures { plain_told result ≡ answered (state_verdict sheet.now (table head.now states.now cursors.now matched.now transitions.now) state.number state.stamp) (plain_of (entry_in sheet.now (table head.now states.now cursors.now matched.now transitions.now) state.number property)) }
 {
-    match value_kind(
+    let kind = value_kind(
         sheet,
         head,
         states,
@@ -136,12 +133,12 @@ pub fn get_entry_ref(
         transitions,
         state,
         property,
-    ) {
-        StyleValueKind::Value(n) => StyleValueRef::Value(n),
-        StyleValueKind::Resource(n) => StyleValueRef::Resource(n),
-        StyleValueKind::Refused(r) => StyleValueRef::Refused(r),
-        _ => StyleValueRef::Nothing,
-    }
+    )?;
+    Ok(match kind {
+        Some(StyleValueKind::Value(n)) => Some(StyleValueRef::Value(n)),
+        Some(StyleValueKind::Resource(n)) => Some(StyleValueRef::Resource(n)),
+        _ => None,
+    })
 }
 
 // The key of a winning resource.
@@ -154,10 +151,10 @@ pub fn resource_key(
     transitions: &[u32],
     state: MatchState,
     property: u16,
-) -> ResourceKey
+) -> Result<Option<u32>, Refusal>
     ensures { resource_told result ≡ answered (state_verdict sheet.now (table head.now states.now cursors.now matched.now transitions.now) state.number state.stamp) (resource_of (entry_in sheet.now (table head.now states.now cursors.now matched.now transitions.now) state.number property)) }
 {
-    match value_kind(
+    let kind = value_kind(
         sheet,
         head,
         states,
@@ -166,9 +163,9 @@ pub fn resource_key(
         transitions,
         state,
         property,
-    ) {
-        StyleValueKind::Resource(n) => ResourceKey::Key(n),
-        StyleValueKind::Refused(r) => ResourceKey::Refused(r),
-        _ => ResourceKey::Nothing,
-    }
+    )?;
+    Ok(match kind {
+        Some(StyleValueKind::Resource(n)) => Some(n),
+        _ => None,
+    })
 }

@@ -6,23 +6,25 @@ use Rattle.style.specs.Entries.{Entry}
 use Rattle.sheet.specs.Layout.{rules_in, styles_in}
 use Rattle.keys.specs.Keys.{key_from}
 use Rattle.winners.specs.declared.Best.{Best}
-use Rattle.winners.specs.declared.Best.TheVariants as best
 use Rattle.winners.specs.declared.Found.{Found}
-use Rattle.winners.specs.declared.Found.TheVariants as found
+use Rattle.winners.specs.declared.Source.{Source}
+use Rattle.winners.specs.declared.Source.TheVariants as source
 use Rattle.winners.specs.Winners.{Place, style, rule, key_at}
 
-abbrev pub place_in : Best → Option Place
-place_in best.Nobody = none
-place_in (best.Style d k) = some (style d)
-place_in (best.Rule r k) = some (rule r)
+abbrev pub place_of : Source → Place
+place_of (source.Style d) = style d
+place_of (source.Rule r) = rule r
 
-abbrev pub key_in : Best → Option Key
-key_in best.Nobody = none
-key_in (best.Style d k) = some (key_from k)
-key_in (best.Rule r k) = some (key_from k)
+abbrev pub place_in : Option Best → Option Place
+place_in none = none
+place_in (some b) = some (place_of b.source)
+
+abbrev pub key_in : Option Best → Option Key
+key_in none = none
+key_in (some b) = some (key_from b.key)
 
 -- b is this source for the property p, with its key
-pub record Stands (w : List ℕ) (ranking p : ℕ) (o : Option Place) (b : Best) : Type 0 where
+pub record Stands (w : List ℕ) (ranking p : ℕ) (o : Option Place) (b : Option Best) : Type 0 where
   pub place : place_in b ≡ o
   pub key : key_in b ≡ map (λ s. key_at w ranking s p) o
 
@@ -38,6 +40,6 @@ is_place w (some (style d)) = ltb d (styles_in w)
 is_place w (some (rule r)) = ltb r (rules_in w)
 
 -- what was found is this entry's kind and number, or there is none
-abbrev pub Finds : Option Entry → Found → Type 0
-Finds o found.Nothing = o ≡ none
-Finds o (found.Entry kind number) = (e : Entry) × (o ≡ some e) × (kind ≡ e.kind) × (number ≡ e.number)
+abbrev pub Finds : Option Entry → Option Found → Type 0
+Finds o none = o ≡ none
+Finds o (some f) = (e : Entry) × (o ≡ some e) × (f.kind ≡ e.kind) × (f.number ≡ e.number)

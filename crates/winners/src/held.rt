@@ -1,7 +1,7 @@
 // For callers that hold the sheet to its shape already.
 ghost use Rattle.std.specs.Prelude.{◌≡◌, true, ℕ, ◌+◌, ◌≤◌, ◌<◌, length, drop};
 ghost use Rattle.std.proofs.Math.Option.{some};
-ghost use Rattle.theory.specs.Lists.{spread, ascends};
+ghost use Rattle.theory.specs.Lists.{spread, ascends, member};
 ghost use Rattle.theory.specs.Cascade.{winner, same_key};
 ghost use Rattle.lent.specs.Pool.{ends_in, list_at};
 ghost use Rattle.sheet.specs.Layout.{rules_in, styles_in};
@@ -11,9 +11,9 @@ ghost use Rattle.style.specs.Entries.{look_up};
 ghost use Rattle.keys.specs.Keys.{key_from};
 ghost use Rattle.winners.specs.Winners.{style, rule, key_at, holds_at, winner_of, entry_of, AreRules};
 ghost use Rattle.winners.specs.Next.{Next};
-ghost use Rattle.winners.specs.Best.{place_in, key_in, Stands, beats_key, is_place, Finds};
+ghost use Rattle.winners.specs.Best.{place_of, place_in, key_in, Stands, beats_key, is_place, Finds};
 
-use crate::{Best, Found};
+use crate::{Best, Found, Source};
 use idset::held::{contains, lower_bound};
 use keys::CascadeEntryKey;
 use keys::held::{rule_key, style_key};
@@ -22,124 +22,117 @@ use lent::lists::{Column, start_of};
 use lent::words::{wide, word};
 use sheet::layout;
 
-fn style_holds(sheet: &[u32], number: u32, property: u32) -> bool
-    requires { (sheet_shape sheet.now ≡ true) × (number < styles_in sheet.now) }
-    ensures { result ≡ holds_at sheet.now (style number) property }
+// Whether list k of the pool that stands at `base` has the property.
+fn holds_in(sheet: &[u32], ends: Column, base: usize, k: u32, property: u32) -> bool
+    requires { ascends (list_at (ends_in sheet.now ends.base ends.stride) (drop base sheet.now) k) ≡ true }
+    ensures { result ≡ member property (list_at (ends_in sheet.now ends.base ends.stride) (drop base sheet.now) k) }
 {
-    let ends = layout::STYLE_ENTRY_ENDS;
-    contains(
-        list_of(sheet, ends, rest(sheet, layout::STYLE_ENTRY), number),
-        property,
-    )
+    contains(list_of(sheet, ends, rest(sheet, base), k), property)
 }
 
-fn rule_holds(sheet: &[u32], number: u32, property: u32) -> bool
-    requires { (sheet_shape sheet.now ≡ true) × (number < rules_in sheet.now) }
-    ensures { result ≡ holds_at sheet.now (rule number) property }
+fn holds(sheet: &[u32], source: Source, property: u32) -> bool
+    requires { (sheet_shape sheet.now ≡ true) × (is_place sheet.now (some (place_of source)) ≡ true) }
+    ensures { result ≡ holds_at sheet.now (place_of source) property }
 {
-    let ends = layout::RULE_ENTRY_ENDS;
-    contains(
-        list_of(sheet, ends, rest(sheet, layout::ENTRY), number),
-        property,
-    )
+    match source {
+        Source::Style(d) => {
+            holds_in(
+                sheet,
+                layout::STYLE_ENTRY_ENDS,
+                layout::STYLE_ENTRY,
+                d,
+                property,
+            )
+        }
+        Source::Rule(r) => holds_in(sheet, layout::RULE_ENTRY_ENDS, layout::ENTRY, r, property),
+    }
+}
+
+fn key(sheet: &[u32], ranking: u32, source: Source) -> CascadeEntryKey
+    requires { (sheet_shape sheet.now ≡ true) × (is_place sheet.now (some (place_of source)) ≡ true) × (ranking ≤ 1) }
+    ensures { key_from result ≡ key_at sheet.now ranking (place_of source) }
+{
+    match source {
+        Source::Style(d) => style_key(sheet, d),
+        Source::Rule(r) => rule_key(sheet, r, ranking),
+    }
 }
 
 // Of equal keys the first stays.
-fn beats(key: CascadeEntryKey, best: Best) -> bool
+fn beats(key: CascadeEntryKey, best: Option<Best>) -> bool
     ensures { result ≡ beats_key (key_from key) (key_in best) }
 {
     match best {
-        Best::Nobody => true,
-        Best::Style(_, other) => key.compare(other) == 1,
-        Best::Rule(_, other) => key.compare(other) == 1,
+        None => true,
+        Some(b) => key > b.key,
     }
 }
 
-// The best so far, after one more direct style.
-fn or_style(sheet: &[u32], best: Best, number: u32, property: u32) -> Best
-    requires { (sheet_shape sheet.now ≡ true) × (number < styles_in sheet.now) }
-    ensures { (ranking : ℕ) → Next sheet.now ranking property (style number) best result }
+// The best so far, after one more source.
+fn or_source(
+    sheet: &[u32],
+    ranking: u32,
+    best: Option<Best>,
+    source: Source,
+    property: u32,
+) -> Option<Best>
+    requires { (sheet_shape sheet.now ≡ true) × (is_place sheet.now (some (place_of source)) ≡ true) × (ranking ≤ 1) }
+    ensures { Next sheet.now ranking property (place_of source) best result }
 {
-    if !style_holds(sheet, number, property) {
+    if !holds(sheet, source, property) {
         return best;
     }
-    let key = style_key(sheet, number);
+    let key = key(sheet, ranking, source);
     if !beats(key, best) {
         return best;
     }
-    Best::Style(number, key)
-}
-
-// And after one more rule.
-fn or_rule(sheet: &[u32], ranking: u32, best: Best, number: u32, property: u32) -> Best
-    requires { (sheet_shape sheet.now ≡ true) × (number < rules_in sheet.now) × (ranking ≤ 1) }
-    ensures { Next sheet.now ranking property (rule number) best result }
-{
-    if !rule_holds(sheet, number, property) {
-        return best;
-    }
-    let key = rule_key(sheet, number, ranking);
-    if !beats(key, best) {
-        return best;
-    }
-    Best::Rule(number, key)
+    Some(Best { source, key })
 }
 
 // The direct style that wins among the direct styles.
-fn best_style(sheet: &[u32], property: u32) -> Best
-    requires { sheet_shape sheet.now ≡ true }
-    ensures { (ranking : ℕ) → Stands sheet.now ranking property (winner (key_at sheet.now ranking) (holds_at sheet.now) (spread style 0 (styles_in sheet.now)) property) result }
+fn best_style(sheet: &[u32], ranking: u32, property: u32) -> Option<Best>
+    requires { (sheet_shape sheet.now ≡ true) × (ranking ≤ 1) }
+    ensures { Stands sheet.now ranking property (winner (key_at sheet.now ranking) (holds_at sheet.now) (spread style 0 (styles_in sheet.now)) property) result }
 {
-    let n = word(sheet, layout::STYLES);
-    let mut best = Best::Nobody;
-    let mut d = 0;
-    while d < n {
-        best = or_style(sheet, best, d, property);
-        d += 1;
+    let mut best = None;
+    for d in 0..word(sheet, layout::STYLES) {
+        best = or_source(sheet, ranking, best, Source::Style(d), property);
     }
     best
 }
 
 // The winner among the direct styles and these rules: `StyleCascade::compute_winning_source`.
-pub fn winner(sheet: &[u32], ranking: u32, rules: &[u32], property: u32) -> Best
+pub fn winner(sheet: &[u32], ranking: u32, rules: &[u32], property: u32) -> Option<Best>
     requires { (sheet_shape sheet.now ≡ true) × (ranking ≤ 1) × AreRules sheet.now rules.now }
     ensures { Stands sheet.now ranking property (winner_of sheet.now ranking rules.now property) result }
 {
-    let mut best = best_style(sheet, property);
-    let mut i = 0;
-    while i < rules.len() {
-        best = or_rule(sheet, ranking, best, rules[i], property);
-        i += 1;
+    let mut best = best_style(sheet, ranking, property);
+    for &r in rules {
+        best = or_source(sheet, ranking, best, Source::Rule(r), property);
     }
     best
 }
 
-fn has_key(best: Best, key: CascadeEntryKey) -> bool
-    ensures { result ≡ same_key (some (key_from key)) (key_in best) }
-{
-    match best {
-        Best::Nobody => false,
-        Best::Style(_, other) => key.compare(other) == 0,
-        Best::Rule(_, other) => key.compare(other) == 0,
-    }
-}
-
 // Whether two winners have the same key, or there is none on either side.
-pub fn same(a: Best, b: Best) -> bool
+pub fn same(a: Option<Best>, b: Option<Best>) -> bool
     ensures { result ≡ same_key (key_in a) (key_in b) }
 {
-    match a {
-        Best::Style(_, key) => has_key(b, key),
-        Best::Rule(_, key) => has_key(b, key),
-        Best::Nobody => match b {
-            Best::Nobody => true,
-            _ => false,
-        },
+    match (a, b) {
+        (Some(a), Some(b)) => a.key == b.key,
+        (None, None) => true,
+        _ => false,
     }
 }
 
 // The property's entry in list k of the pool at `base`.
-fn entry_in(sheet: &[u32], ends: Column, base: usize, room: usize, k: u32, property: u32) -> Found
+fn entry_in(
+    sheet: &[u32],
+    ends: Column,
+    base: usize,
+    room: usize,
+    k: u32,
+    property: u32,
+) -> Option<Found>
     requires base_bound { (base ≤ 100000) × (room ≤ 4096) × (base + ends_in sheet.now ends.base ends.stride k ≤ length sheet.now) }
     requires k_value { ascends (list_at (ends_in sheet.now ends.base ends.stride) (drop base sheet.now) k) ≡ true }
     ensures { Finds (look_up property (between (entry_at sheet.now base room) (ends_in sheet.now ends.base ends.stride) k)) result }
@@ -147,23 +140,25 @@ fn entry_in(sheet: &[u32], ends: Column, base: usize, room: usize, k: u32, prope
     let list = list_of(sheet, ends, rest(sheet, base), k);
     let at = lower_bound(list, property);
     if list.len() <= at {
-        return Found::Nothing;
+        return None;
     }
     if list[at] != property {
-        return Found::Nothing;
+        return None;
     }
     let e = base + room + wide(start_of(sheet, ends, k)) + at;
-    Found::Entry(word(sheet, e), word(sheet, e + room))
+    Some(Found {
+        kind: word(sheet, e),
+        number: word(sheet, e + room),
+    })
 }
 
 // The winner's entry of the property, and no other's.
-pub fn entry(sheet: &[u32], best: Best, property: u32) -> Found
+pub fn entry(sheet: &[u32], best: Option<Best>, property: u32) -> Option<Found>
     requires { (sheet_shape sheet.now ≡ true) × (is_place sheet.now (place_in best) ≡ true) }
     ensures { Finds (entry_of sheet.now (place_in best) property) result }
 {
-    match best {
-        Best::Nobody => Found::Nothing,
-        Best::Style(d, _) => entry_in(
+    match best?.source {
+        Source::Style(d) => entry_in(
             sheet,
             layout::STYLE_ENTRY_ENDS,
             layout::STYLE_ENTRY,
@@ -171,7 +166,7 @@ pub fn entry(sheet: &[u32], best: Best, property: u32) -> Found
             d,
             property,
         ),
-        Best::Rule(r, _) => entry_in(
+        Source::Rule(r) => entry_in(
             sheet,
             layout::RULE_ENTRY_ENDS,
             layout::ENTRY,

@@ -5,17 +5,23 @@ use keys::CascadeEntryKey;
 
 pub mod held;
 
-// The best source so far, by its number in the sheet, and its key.
+// A direct style or a rule, by its number in the sheet.
+#[derive(Clone, Copy, Debug, PartialEq, Eq)]
+pub enum Source {
+    Style(u32),
+    Rule(u32),
+}
+
+// The best source so far, and its key.
 #[derive(Clone, Copy)]
-pub enum Best {
-    Nobody,
-    Style(u32, CascadeEntryKey),
-    Rule(u32, CascadeEntryKey),
+pub struct Best {
+    pub source: Source,
+    pub key: CascadeEntryKey,
 }
 
 // An entry's kind and number.
-#[derive(Clone, Copy)]
-pub enum Found {
-    Entry(u32, u32),
-    Nothing,
+#[derive(Clone, Copy, Debug, PartialEq, Eq)]
+pub struct Found {
+    pub kind: u32,
+    pub number: u32,
 }
