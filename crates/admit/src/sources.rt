@@ -1,12 +1,13 @@
-// The refusals of a pushed style and of a pushed group, in 01's order; each answer is the refusal's number, 0 for none. Nothing is written.
+// The refusals of a pushed style and of a pushed group, in 01's order. Nothing is written.
 ghost use Rattle.std.specs.Prelude.{◌≡◌, true, ◌+◌, ◌*◌, ◌≤◌, ◌<◌, length, drop};
-ghost use Rattle.lent.specs.Refusals.{first_of, checks_below};
+ghost use Rattle.lent.specs.Refusals.{first_of, checks_below, verdict_of};
 ghost use Rattle.sheet.specs.Shape.{sheet_shape};
 ghost use Rattle.given.specs.Given.{given};
 ghost use Rattle.given.specs.Pushing.{index_checks, form_checks, style_size_checks, style_push_verdict, rules_over, rule_size_checks, one_rule_checks, rule_checks, group_verdict};
 
-use checks::held::{combinators_verdict, selector_over};
+use checks::held::{check_combinators, selector_over};
 use given::held::{all_entries, held_ids};
+use lent::Refusal;
 use lent::held::{rest, rest_halves};
 use lent::words::{wide, word};
 use sheet::layout;
@@ -14,90 +15,90 @@ use sheet::shape::is_sheet;
 use style::held::{entries_over, kinds_over, properties_off};
 
 // 7.
-fn index_verdict(sheet: &[u32]) -> u32
-    ensures { result ≡ first_of (index_checks sheet.now) }
+fn check_index(sheet: &[u32]) -> Result<(), Refusal>
+    ensures { verdict_of result ≡ first_of (index_checks sheet.now) }
 {
     if 65535 < word(sheet, layout::NEXT_SOURCE) {
-        return 7;
+        return Err(Refusal::NoSourceIndex);
     }
-    0
+    Ok(())
 }
 
 // 6, 1.
-fn form_verdict(properties: &[u16], kinds: &[u32], n: usize) -> u32
+fn check_form(properties: &[u16], kinds: &[u32], n: usize) -> Result<(), Refusal>
     requires { (n ≤ 32) × (n ≤ length properties.now) × (n ≤ length kinds.now) }
-    ensures { result ≡ first_of (form_checks properties.now kinds.now n) }
+    ensures { verdict_of result ≡ first_of (form_checks properties.now kinds.now n) }
 {
     if kinds_over(kinds, n) {
-        return 6;
+        return Err(Refusal::CodeOutOfRange);
     }
     if properties_off(properties, n) {
-        return 1;
+        return Err(Refusal::NotAscending);
     }
-    0
+    Ok(())
 }
 
 // 2.
-fn style_sizes(sheet: &[u32], properties: &[u16], kinds: &[u32], numbers: &[u32], n: usize) -> u32
-    ensures { result ≡ first_of (style_size_checks sheet.now properties.now kinds.now numbers.now n) }
+fn check_style_sizes(
+    sheet: &[u32],
+    properties: &[u16],
+    kinds: &[u32],
+    numbers: &[u32],
+    n: usize,
+) -> Result<(), Refusal>
+    ensures { verdict_of result ≡ first_of (style_size_checks sheet.now properties.now kinds.now numbers.now n) }
 {
     if 64 <= word(sheet, layout::STYLES) {
-        return 2;
+        return Err(Refusal::OverSize);
     }
     if entries_over(properties, kinds, numbers, n) {
-        return 2;
+        return Err(Refusal::OverSize);
     }
     if 4096 < all_entries(sheet) + n {
-        return 2;
+        return Err(Refusal::OverSize);
     }
-    0
+    Ok(())
 }
 
 // 6 (origin), 2, 6, 1, 7, of a sheet in shape.
-pub(crate) fn style_fault(
+pub(crate) fn check_style_held(
     sheet: &[u32],
     origin: u32,
     properties: &[u16],
     kinds: &[u32],
     numbers: &[u32],
     n: usize,
-) -> u32
+) -> Result<(), Refusal>
     requires { sheet_shape sheet.now ≡ true }
-    ensures { result ≡ style_push_verdict sheet.now origin properties.now kinds.now numbers.now n }
+    ensures { verdict_of result ≡ style_push_verdict sheet.now origin properties.now kinds.now numbers.now n }
 {
     if 7 < origin {
-        return 6;
+        return Err(Refusal::CodeOutOfRange);
     }
-    let sizes = style_sizes(sheet, properties, kinds, numbers, n);
-    if sizes != 0 {
-        return sizes;
-    }
-    let form = form_verdict(properties, kinds, n);
-    if form != 0 {
-        return form;
-    }
-    index_verdict(sheet)
+    check_style_sizes(sheet, properties, kinds, numbers, n)?;
+    check_form(properties, kinds, n)?;
+    check_index(sheet)
 }
 
 // "Pushing a style 11, 6 (origin), 2, 6, 1, 7."
-pub fn style_verdict(
+pub fn check_style(
     sheet: &[u32],
     origin: u32,
     properties: &[u16],
     kinds: &[u32],
     numbers: &[u32],
     n: usize,
-) -> u32
-    ensures { result ≡ style_push_verdict sheet.now origin properties.now kinds.now numbers.now n }
+) -> Result<(), Refusal>
+    ensures { verdict_of result ≡ style_push_verdict sheet.now origin properties.now kinds.now numbers.now n }
 {
     if !is_sheet(sheet) {
-        return 11;
+        return Err(Refusal::BrokenShape);
     }
-    style_fault(sheet, origin, properties, kinds, numbers, n)
+    check_style_held(sheet, origin, properties, kinds, numbers, n)
 }
 
 // 2, of one rule whose items begin these lists, after `ids` ids and `entries` entries.
-fn rule_sizes(
+fn check_rule_sizes(
     steps: &[u32],
     n: usize,
     combinators: &[u32],
@@ -108,27 +109,27 @@ fn rule_sizes(
     l: usize,
     ids: usize,
     entries: usize,
-) -> u32
+) -> Result<(), Refusal>
     requires { (ids ≤ 8192) × (entries ≤ 4096) }
-    ensures { result ≡ first_of (rule_size_checks steps.now n combinators.now m properties.now kinds.now numbers.now l ids entries) }
+    ensures { verdict_of result ≡ first_of (rule_size_checks steps.now n combinators.now m properties.now kinds.now numbers.now l ids entries) }
 {
     if selector_over(steps, n, combinators, m) {
-        return 2;
+        return Err(Refusal::OverSize);
     }
     if entries_over(properties, kinds, numbers, l) {
-        return 2;
+        return Err(Refusal::OverSize);
     }
     if 8192 < ids + held_ids(steps, n) {
-        return 2;
+        return Err(Refusal::OverSize);
     }
     if 4096 < entries + l {
-        return 2;
+        return Err(Refusal::OverSize);
     }
-    0
+    Ok(())
 }
 
 // 2, 3, 6, 1.
-fn rule_verdict(
+fn check_rule(
     steps: &[u32],
     n: usize,
     combinators: &[u32],
@@ -139,11 +140,11 @@ fn rule_verdict(
     l: usize,
     ids: usize,
     entries: usize,
-) -> u32
+) -> Result<(), Refusal>
     requires { (ids ≤ 8192) × (entries ≤ 4096) }
-    ensures { result ≡ first_of (one_rule_checks steps.now n combinators.now m properties.now kinds.now numbers.now l ids entries) }
+    ensures { verdict_of result ≡ first_of (one_rule_checks steps.now n combinators.now m properties.now kinds.now numbers.now l ids entries) }
 {
-    let sizes = rule_sizes(
+    check_rule_sizes(
         steps,
         n,
         combinators,
@@ -154,19 +155,13 @@ fn rule_verdict(
         l,
         ids,
         entries,
-    );
-    if sizes != 0 {
-        return sizes;
-    }
-    let combination = combinators_verdict(n, combinators, m);
-    if combination != 0 {
-        return combination;
-    }
-    form_verdict(properties, kinds, l)
+    )?;
+    check_combinators(n, combinators, m)?;
+    check_form(properties, kinds, l)
 }
 
 // The same of a rule whose steps, combinators and entries begin at p, c and q.
-fn rule_verdict_from(
+fn check_rule_from(
     steps: &[u32],
     p: usize,
     n: usize,
@@ -180,11 +175,11 @@ fn rule_verdict_from(
     l: usize,
     ids: usize,
     entries: usize,
-) -> u32
+) -> Result<(), Refusal>
     requires { (p ≤ 2048) × (ids ≤ 8192) × (entries ≤ 4096) }
-    ensures { result ≡ first_of (one_rule_checks (drop (22 * p) steps.now) n (drop c combinators.now) m (drop q properties.now) (drop q kinds.now) (drop q numbers.now) l ids entries) }
+    ensures { verdict_of result ≡ first_of (one_rule_checks (drop (22 * p) steps.now) n (drop c combinators.now) m (drop q properties.now) (drop q kinds.now) (drop q numbers.now) l ids entries) }
 {
-    rule_verdict(
+    check_rule(
         rest(steps, 22 * p),
         n,
         rest(combinators, c),
@@ -199,7 +194,7 @@ fn rule_verdict_from(
 }
 
 // "each rule in turn": n rules, after `ids` ids and `entries` entries.
-fn rules_verdict(
+fn check_rules(
     rules: &[u32],
     n: usize,
     steps: &[u32],
@@ -209,9 +204,9 @@ fn rules_verdict(
     numbers: &[u32],
     ids: usize,
     entries: usize,
-) -> u32
+) -> Result<(), Refusal>
     requires { (n ≤ 256) × (ids ≤ 8192) × (entries ≤ 4096) }
-    ensures { result ≡ first_of (checks_below n (rule_checks ids entries (given rules.now steps.now combinators.now properties.now kinds.now numbers.now))) }
+    ensures { verdict_of result ≡ first_of (checks_below n (rule_checks ids entries (given rules.now steps.now combinators.now properties.now kinds.now numbers.now))) }
 {
     let mut p = 0;
     let mut c = 0;
@@ -223,7 +218,7 @@ fn rules_verdict(
         let step_count = wide(word(rules, i));
         let combinator_count = wide(word(rules, i + 1));
         let entry_count = wide(word(rules, i + 2));
-        let v = rule_verdict_from(
+        check_rule_from(
             steps,
             p,
             step_count,
@@ -237,17 +232,14 @@ fn rules_verdict(
             entry_count,
             t,
             entries + q,
-        );
-        if v != 0 {
-            return v;
-        }
+        )?;
         t += held_ids(rest(steps, 22 * p), step_count);
         p += step_count;
         c += combinator_count;
         q += entry_count;
         k += 1;
     }
-    0
+    Ok(())
 }
 
 fn rules_over(sheet: &[u32], rules: &[u32], n: usize) -> bool
@@ -261,7 +253,7 @@ fn rules_over(sheet: &[u32], rules: &[u32], n: usize) -> bool
 }
 
 // 6 for the origin, 2 for the number of rules, then each rule in turn 2, 3, 6, 1, then 7, of a sheet in shape.
-pub(crate) fn group_fault(
+pub(crate) fn check_group_held(
     sheet: &[u32],
     origin: u32,
     rules: &[u32],
@@ -271,17 +263,17 @@ pub(crate) fn group_fault(
     properties: &[u16],
     kinds: &[u32],
     numbers: &[u32],
-) -> u32
+) -> Result<(), Refusal>
     requires { sheet_shape sheet.now ≡ true }
-    ensures { result ≡ group_verdict sheet.now origin (given rules.now steps.now combinators.now properties.now kinds.now numbers.now) n }
+    ensures { verdict_of result ≡ group_verdict sheet.now origin (given rules.now steps.now combinators.now properties.now kinds.now numbers.now) n }
 {
     if 7 < origin {
-        return 6;
+        return Err(Refusal::CodeOutOfRange);
     }
     if rules_over(sheet, rules, n) {
-        return 2;
+        return Err(Refusal::OverSize);
     }
-    let each = rules_verdict(
+    check_rules(
         rules,
         n,
         steps,
@@ -291,15 +283,12 @@ pub(crate) fn group_fault(
         numbers,
         wide(word(sheet, layout::IDS)),
         all_entries(sheet),
-    );
-    if each != 0 {
-        return each;
-    }
-    index_verdict(sheet)
+    )?;
+    check_index(sheet)
 }
 
 // "Pushing a group 11, 6 for the origin, 2 for the number of rules, then each rule in turn 2 (sheet sums so far included), 3, 6, 1, then 7".
-pub fn group_verdict(
+pub fn check_group(
     sheet: &[u32],
     origin: u32,
     rules: &[u32],
@@ -309,13 +298,13 @@ pub fn group_verdict(
     properties: &[u16],
     kinds: &[u32],
     numbers: &[u32],
-) -> u32
-    ensures { result ≡ group_verdict sheet.now origin (given rules.now steps.now combinators.now properties.now kinds.now numbers.now) n }
+) -> Result<(), Refusal>
+    ensures { verdict_of result ≡ group_verdict sheet.now origin (given rules.now steps.now combinators.now properties.now kinds.now numbers.now) n }
 {
     if !is_sheet(sheet) {
-        return 11;
+        return Err(Refusal::BrokenShape);
     }
-    group_fault(
+    check_group_held(
         sheet,
         origin,
         rules,

@@ -1,9 +1,12 @@
-// For callers that hold the sheet to its shape already: pushes without that test. Each answers its refusal's number, 0 for none.
+// For callers that hold the sheet to its shape already: pushes without that test.
 ghost use Rattle.std.specs.Prelude.{◌≡◌, true};
+ghost use Rattle.lent.specs.Refusals.{verdict_of};
 ghost use Rattle.sheet.specs.Shape.{sheet_shape};
 ghost use Rattle.given.specs.Given.{given};
 ghost use Rattle.given.specs.Pushing.{style_push_verdict, pushed_style, group_verdict, pushed_group};
 ghost use Rattle.builder.specs.Answers.{Pushes};
+
+use lent::Refusal;
 
 pub fn push_style(
     sheet: &mut [u32],
@@ -12,16 +15,13 @@ pub fn push_style(
     kinds: &[u32],
     numbers: &[u32],
     count: usize,
-) -> u32
+) -> Result<(), Refusal>
     requires { sheet_shape sheet.old ≡ true }
-    ensures { Pushes (style_push_verdict sheet.old origin properties.now kinds.now numbers.now count) sheet.old (pushed_style sheet.old origin properties.now kinds.now numbers.now count) result sheet.new }
+    ensures { Pushes (style_push_verdict sheet.old origin properties.now kinds.now numbers.now count) sheet.old (pushed_style sheet.old origin properties.now kinds.now numbers.now count) (verdict_of result) sheet.new }
 {
-    let v = admit::held::style_verdict(sheet, origin, properties, kinds, numbers, count);
-    if v != 0 {
-        return v;
-    }
+    admit::held::check_style(sheet, origin, properties, kinds, numbers, count)?;
     group::held::put_style(sheet, origin, properties, kinds, numbers, count);
-    0
+    Ok(())
 }
 
 pub fn push_rules(
@@ -34,11 +34,11 @@ pub fn push_rules(
     properties: &[u16],
     kinds: &[u32],
     numbers: &[u32],
-) -> u32
+) -> Result<(), Refusal>
     requires { sheet_shape sheet.old ≡ true }
-    ensures { Pushes (group_verdict sheet.old origin (given rules.now steps.now combinators.now properties.now kinds.now numbers.now) rule_count) sheet.old (pushed_group sheet.old origin (given rules.now steps.now combinators.now properties.now kinds.now numbers.now) rule_count) result sheet.new }
+    ensures { Pushes (group_verdict sheet.old origin (given rules.now steps.now combinators.now properties.now kinds.now numbers.now) rule_count) sheet.old (pushed_group sheet.old origin (given rules.now steps.now combinators.now properties.now kinds.now numbers.now) rule_count) (verdict_of result) sheet.new }
 {
-    let v = admit::held::group_verdict(
+    admit::held::check_group(
         sheet,
         origin,
         rules,
@@ -48,10 +48,7 @@ pub fn push_rules(
         properties,
         kinds,
         numbers,
-    );
-    if v != 0 {
-        return v;
-    }
+    )?;
     group::held::put_group(
         sheet,
         origin,
@@ -63,5 +60,5 @@ pub fn push_rules(
         kinds,
         numbers,
     );
-    0
+    Ok(())
 }

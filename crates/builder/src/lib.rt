@@ -13,21 +13,15 @@ use sheet::layout;
 
 pub mod held;
 
-#[derive(Clone, Copy)]
-pub enum Pushing {
-    Pushed,
-    Refused(Refusal),
-}
-
 // The empty sheet: its counts are written, and nothing else.
-pub fn new(sheet: &mut [u32]) -> Pushing
+pub fn new(sheet: &mut [u32]) -> Result<(), Refusal>
     ensures { Push (empty_verdict sheet.old) sheet.old (emptied sheet.old) result sheet.new }
 {
     if sheet.len() < layout::SHEET_WORDS {
-        return Pushing::Refused(Refusal::BrokenShape);
+        return Err(Refusal::BrokenShape);
     }
     copy_into(sheet, 0, &[0u32; 7]);
-    Pushing::Pushed
+    Ok(())
 }
 
 // A direct style of `count` entries.
@@ -38,15 +32,12 @@ pub fn push_style(
     kinds: &[u32],
     numbers: &[u32],
     count: usize,
-) -> Pushing
+) -> Result<(), Refusal>
     ensures { Push (style_push_verdict sheet.old origin properties.now kinds.now numbers.now count) sheet.old (pushed_style sheet.old origin properties.now kinds.now numbers.now count) result sheet.new }
 {
-    let v = admit::sources::style_verdict(sheet, origin, properties, kinds, numbers, count);
-    if v != 0 {
-        return Pushing::Refused(Refusal::of(v));
-    }
+    admit::sources::check_style(sheet, origin, properties, kinds, numbers, count)?;
     group::held::put_style(sheet, origin, properties, kinds, numbers, count);
-    Pushing::Pushed
+    Ok(())
 }
 
 // A group of one rule.
@@ -61,7 +52,7 @@ pub fn push_rule(
     kinds: &[u32],
     numbers: &[u32],
     entry_count: u32,
-) -> Pushing
+) -> Result<(), Refusal>
     ensures { Push (group_verdict sheet.old origin (given (step_count ∷ combinator_count ∷ entry_count ∷ []) steps.now combinators.now properties.now kinds.now numbers.now) 1) sheet.old (pushed_group sheet.old origin (given (step_count ∷ combinator_count ∷ entry_count ∷ []) steps.now combinators.now properties.now kinds.now numbers.now) 1) result sheet.new }
 {
     let rule = [step_count, combinator_count, entry_count];
@@ -89,10 +80,10 @@ pub fn push_rules(
     properties: &[u16],
     kinds: &[u32],
     numbers: &[u32],
-) -> Pushing
+) -> Result<(), Refusal>
     ensures { Push (group_verdict sheet.old origin (given rules.now steps.now combinators.now properties.now kinds.now numbers.now) rule_count) sheet.old (pushed_group sheet.old origin (given rules.now steps.now combinators.now properties.now kinds.now numbers.now) rule_count) result sheet.new }
 {
-    let refusal = admit::sources::group_verdict(
+    admit::sources::check_group(
         sheet,
         origin,
         rules,
@@ -102,10 +93,7 @@ pub fn push_rules(
         properties,
         kinds,
         numbers,
-    );
-    if refusal != 0 {
-        return Pushing::Refused(Refusal::of(refusal));
-    }
+    )?;
     group::held::put_group(
         sheet,
         origin,
@@ -117,17 +105,14 @@ pub fn push_rules(
         kinds,
         numbers,
     );
-    Pushing::Pushed
+    Ok(())
 }
 
 // The sources of another sheet, after those that are there.
-pub fn push_cascade(sheet: &mut [u32], cascade: &[u32]) -> Pushing
+pub fn push_cascade(sheet: &mut [u32], cascade: &[u32]) -> Result<(), Refusal>
     ensures { Push (cascade_verdict sheet.old cascade.now) sheet.old (pushed_cascade sheet.old cascade.now) result sheet.new }
 {
-    let v = joining::cascades::cascade_verdict(sheet, cascade);
-    if v != 0 {
-        return Pushing::Refused(Refusal::of(v));
-    }
+    joining::cascades::check_cascade(sheet, cascade)?;
     merge::held::put_cascade(sheet, cascade);
-    Pushing::Pushed
+    Ok(())
 }

@@ -2,10 +2,12 @@
 ghost use Rattle.std.specs.Prelude.{◌≡◌, ◌+◌, get_or, ltb};
 ghost use Rattle.theory.specs.Lists.{spread};
 ghost use Rattle.lent.specs.Pool.{ends_in};
+ghost use Rattle.lent.specs.Refusals.{verdict_of};
 ghost use Rattle.sheet.specs.Sheets.{is_nil, sheet_of};
 ghost use Rattle.given.specs.Pushing.{sums_over, indexes_of, indexes_over, cascade_verdict, largest};
 
 use given::held::all_entries;
+use lent::Refusal;
 use lent::lists::{Column, cell};
 use lent::words::{wide, word};
 use sheet::layout;
@@ -83,20 +85,20 @@ fn indexes_over(sheet: &[u32], other: &[u32]) -> bool
 }
 
 // "Pushing a cascade 11, 2, 7".
-pub fn cascade_verdict(sheet: &[u32], other: &[u32]) -> u32
-    ensures { result ≡ cascade_verdict sheet.now other.now }
+pub fn check_cascade(sheet: &[u32], other: &[u32]) -> Result<(), Refusal>
+    ensures { verdict_of result ≡ cascade_verdict sheet.now other.now }
 {
     if !is_sheet(sheet) {
-        return 11;
+        return Err(Refusal::BrokenShape);
     }
     if !is_sheet(other) {
-        return 11;
+        return Err(Refusal::BrokenShape);
     }
     if sums_over(sheet, other) {
-        return 2;
+        return Err(Refusal::OverSize);
     }
     if indexes_over(sheet, other) {
-        return 7;
+        return Err(Refusal::NoSourceIndex);
     }
-    0
+    Ok(())
 }

@@ -1,5 +1,5 @@
 -- What a style that is not refused keeps to. Assumes nothing.
-use mathlib.Core.Path.{◌≡◌, refl, sym, ◌∙◌}
+use mathlib.Core.Path.{◌≡◌, refl, sym}
 use mathlib.Core.Bool.{true, false}
 use mathlib.Core.List.{List, [], ◌∷◌}
 use Prim.Native.Nat.{ℕ, zero, suc, ◌≤◌, ◌<◌}
@@ -9,8 +9,7 @@ use lib.Dec.{leb}
 use borrow.Author.Tests.{leb-true, not-false}
 use Rattle.theory.specs.Lists.{at_most}
 use Rattle.theory.proofs.Lists.{and_left, and_right}
-use Rattle.lent.specs.Refusals.{first_of}
-use Rattle.lent.proofs.Refusals.{first_under, first_clear}
+use Rattle.lent.proofs.Refusals.{first_clear}
 use Rattle.style.specs.Checks.{entries_over, kinds_over, properties_off, style_verdict}
 use Rattle.style.proofs.CheckLaws.{Within, within}
 
@@ -33,14 +32,10 @@ pub record Accepted (properties kinds numbers : List ℕ) (n : ℕ) : Type 0 whe
   pub sorted : properties_off properties n ≡ false
 
 module _ (properties kinds numbers : List ℕ) (n : ℕ) where
-  pub verdict_few : style_verdict properties kinds numbers n < 10
+  pub accepted : 0 ≡ style_verdict properties kinds numbers n → Accepted properties kinds numbers n
   unfolding style_verdict
-  verdict_few = first_under 2 10 _ _ (omega arith) (first_under 6 10 _ _ (omega arith) (first_under 1 10 _ [] (omega arith) (unfold first_of in omega arith)))
-
-  pub accepted : (v : ℕ) → v ≡ style_verdict properties kinds numbers n → v ≡ 0 → Accepted properties kinds numbers n
-  unfolding style_verdict
-  accepted v e z =
-      let (a, r) = first_clear 2 (entries_over properties kinds numbers n) _ (omega arith) (sym e ∙ z) in
+  accepted e =
+      let (a, r) = first_clear 2 (entries_over properties kinds numbers n) _ (omega arith) (sym e) in
       let (b, s) = first_clear 6 (kinds_over kinds n) _ (omega arith) r in
       record {
         counted = within properties kinds numbers n _ refl a;

@@ -1,5 +1,5 @@
 -- What the look-ups of a style answer, by each way through the code. Assumes nothing.
-use mathlib.Core.Path.{◌≡◌, refl}
+use mathlib.Core.Path.{◌≡◌, refl, sym, ◌∙◌}
 use mathlib.Core.Bool.{Bool, true, false, cond}
 use mathlib.Core.Option.{none, some}
 use mathlib.Core.List.{List, [], ◌∷◌}
@@ -10,56 +10,41 @@ use lib.Seq.{length-take-le}
 use lib.Dec.{ltb, eqb}
 use denote.Ref.{Bor}
 use borrow.Author.Tests.{lt-ltb, le-ltb, ltb-true, ltb-false, eq-eqb, ne_eqb, eqb-true, eqb-false}
+use Rattle.std.specs.Prelude.{Result, Ok, Option, Some, None}
 use Rattle.lent.specs.declared.Refusal.{Refusal}
-use Rattle.lent.specs.Refusals.{refusal_of, told, answered}
-use Rattle.lent.proofs.Refusals.{told_of_lem, number_positive}
-use Rattle.style.specs.declared.Place.{Place}
-use Rattle.style.specs.declared.Place.TheVariants as position
+use Rattle.lent.specs.Refusals.{number_of, told, answered}
+use Rattle.lent.proofs.Refusals.{number_positive, refusal_number, refused_first, accepted_first}
 use Rattle.style.specs.Checks.{style_verdict}
 use Rattle.style.specs.Looking.{place_of, place_in, kind_of, plain_kind, plain_of, resource_kind, resource_of, position_told, position_of, containing_of, style_answer, found, Ids}
 use Rattle.style.proofs.LookLaws.{member_place}
-use Rattle.lookups.proofs.Accepted.{accepted, verdict_few, kind_few}
+use Rattle.lookups.proofs.Accepted.{accepted, kind_few}
 use Rattle.lookups.proofs.Found.{entry_at, look_found, look_none}
 
 -- ---- by the verdict
 
-module _ (properties kinds numbers : List ℕ) (n v : ℕ) (e : v ≡ style_verdict properties kinds numbers n) where
-  pub refused_is : (v ≡ 0 → ⊥) → (r : Refusal) → r ≡ refusal_of v → (l : List ℕ) → told r ≡ style_answer properties kinds numbers n l
-  refused_is h r f l =
-      let few : v < 10 = rw e (verdict_few properties kinds numbers n) in
-      rw (← e, ne_eqb v 0 h, f) (told_of_lem v (omega arith) (omega arith) (λ t. omega arith))
+module _ (properties kinds numbers : List ℕ) (n : ℕ) where
+  pub refused_is : (r : Refusal) → number_of r ≡ style_verdict properties kinds numbers n → (l : List ℕ) → told r ≡ style_answer properties kinds numbers n l
+  unfolding style_verdict
+  refused_is r e l = refused_first _ r l refl e
 
-  pub ids_none : (v ≡ 0 → ⊥) → (whole part : Bor (List ℕ)) → part.now ≡ take (0 - 0) (drop 0 properties) → part.ref_ptr.0 ≡ whole.ref_ptr.0 → part.ref_ptr.1 ≡ whole.ref_ptr.1 → Ids properties kinds numbers n whole part
-  ids_none h whole part f k l = record { ids = rw (← e, ne_eqb v 0 h) f; place = λ i. (k i, l i) }
-
-  module _ (z : v ≡ 0) where
+  module _ (e : 0 ≡ style_verdict properties kinds numbers n) where
     pub told_is : (l : List ℕ) → l ≡ style_answer properties kinds numbers n l
-    told_is l = rw (← e, eq-eqb v 0 z)
-
-    pub ids_all : (whole part : Bor (List ℕ)) → part.now ≡ take (n - 0) (drop 0 properties) → part.ref_ptr.0 ≡ whole.ref_ptr.0 → part.ref_ptr.1 ≡ whole.ref_ptr.1 → Ids properties kinds numbers n whole part
-    ids_all whole part f k l = let m : n - 0 ≡ n = omega arith in record { ids = rw (← e, eq-eqb v 0 z) (rw m at f); place = λ i. (k i, l i) }
-
-    -- an accepted style's list is not too short
-    pub ids_short : length properties < n → (whole part : Bor (List ℕ)) → Ids properties kinds numbers n whole part
-    ids_short h whole part = let a = accepted properties kinds numbers n v e z in absurd (omega (arith, a.counted.in_properties))
+    told_is l = accepted_first _ l e
 
     module _ (p at : ℕ) (f : at ≡ place_of p (take n properties)) where
       counted : length (take n properties) ≡ n
-      counted = length-take-le n properties (accepted properties kinds numbers n v e z).counted.in_properties
+      counted = length-take-le n properties (accepted properties kinds numbers n e).counted.in_properties
 
-      pub contains_yes : at < n → 0 ∷ 1 ∷ [] ≡ containing_of properties kinds numbers n p
-      contains_yes h = rw (← e, eq-eqb v 0 z, member_place p (take n properties), counted, ← f, lt-ltb at n h)
-
-      pub contains_no : n ≤ at → 0 ∷ 0 ∷ [] ≡ containing_of properties kinds numbers n p
-      contains_no h = rw (← e, eq-eqb v 0 z, member_place p (take n properties), counted, ← f, le-ltb at n h)
+      pub contains_is : 0 ∷ cond (ltb at n) 1 0 ∷ [] ≡ containing_of properties kinds numbers n p
+      contains_is = rw (← e, member_place p (take n properties), counted, ← f)
 
       pub position_at : at < n → 0 ∷ at ∷ [] ≡ position_of properties kinds numbers n p
-      position_at h = rw (← e, eq-eqb v 0 z, ← f, lt-ltb at n h)
+      position_at h = rw (← e, ← f, lt-ltb at n h)
 
       pub position_absent : n ≤ at → 0 ∷ [] ≡ position_of properties kinds numbers n p
-      position_absent h = rw (← e, eq-eqb v 0 z, ← f, le-ltb at n h)
+      position_absent h = rw (← e, ← f, le-ltb at n h)
 
-pub ruleset verdicts = (refused_is, told_is, contains_yes, contains_no, position_at, position_absent)
+pub ruleset verdicts = (refused_is, told_is, contains_is, position_at, position_absent)
 
 -- ---- by the place
 
@@ -94,51 +79,52 @@ module _ (v pl n : ℕ) where
       by true false e = let (m, f) = number_positive r in let z : suc m ≡ 0 = cc in absurd (omega arith)
       by false t e = e
 
-module _ (properties kinds numbers : List ℕ) (n p : ℕ) (r : Place) (e : position_told r ≡ position_of properties kinds numbers n p) where
-  stands : (at : ℕ) → r ≡ position.At at → Stands properties kinds numbers n p at
-  stands at f =
-      let (a, b, d) = told_at (style_verdict properties kinds numbers n) (place_of p (take n properties)) n at (rw f at e) in
-      record { passed = a; place = b; below = d }
+module _ (properties kinds numbers : List ℕ) (n p : ℕ) where
+  module _ (o : Option ℕ) (e : position_told (Ok o) ≡ position_of properties kinds numbers n p) where
+    stands : (at : ℕ) → o ≡ Some at → Stands properties kinds numbers n p at
+    stands at f =
+        let (a, b, d) = told_at (style_verdict properties kinds numbers n) (place_of p (take n properties)) n at (rw f at e) in
+        record { passed = a; place = b; below = d }
 
-  module _ (at w k : ℕ) (f : r ≡ position.At at) (g : w ≡ at) (h : k ≡ get_or kinds w 0) where
-    pub kind_in : k ≤ 3
-    kind_in =
-        let s = stands at f in
-        let a = accepted properties kinds numbers n _ refl s.passed in
-        rw (h, g) (kind_few kinds n at a.kinds_in s.below a.counted.in_kinds)
-
-    module _ (w' x : ℕ) (g' : w' ≡ at) (h' : x ≡ get_or numbers w' 0) where
-      found_is : found properties kinds numbers n p ≡ some (entry_at properties kinds numbers at)
-      found_is =
+    module _ (at w k : ℕ) (f : o ≡ Some at) (g : w ≡ at) (h : k ≡ get_or kinds w 0) where
+      pub kind_in : k ≤ 3
+      kind_in =
           let s = stands at f in
-          let a = accepted properties kinds numbers n _ refl s.passed in
-          rw s.place (look_found properties kinds numbers p n a.counted.in_properties (omega (arith, s.place, s.below)))
+          let a = accepted properties kinds numbers n (sym s.passed) in
+          rw (h, g) (kind_few kinds n at a.kinds_in s.below a.counted.in_kinds)
 
-      pub kind_at : (l : List ℕ) → l ≡ 0 ∷ k ∷ x ∷ [] → l ≡ style_answer properties kinds numbers n (kind_of (found properties kinds numbers n p))
-      kind_at l q = rw (found_is, (stands at f).passed, q, h, g, h', g')
+      module _ (w' x : ℕ) (g' : w' ≡ at) (h' : x ≡ get_or numbers w' 0) where
+        found_is : found properties kinds numbers n p ≡ some (entry_at properties kinds numbers at)
+        found_is =
+            let s = stands at f in
+            let a = accepted properties kinds numbers n (sym s.passed) in
+            rw s.place (look_found properties kinds numbers p n a.counted.in_properties (omega (arith, s.place, s.below)))
 
-      pub plain_at : (l : List ℕ) → l ≡ plain_kind k x → l ≡ style_answer properties kinds numbers n (plain_of (found properties kinds numbers n p))
-      plain_at l q = rw (found_is, (stands at f).passed, q, h, g, h', g')
+        pub kind_at : (l : List ℕ) → l ≡ 0 ∷ k ∷ x ∷ [] → l ≡ style_answer properties kinds numbers n (kind_of (found properties kinds numbers n p))
+        kind_at l q = rw (found_is, (stands at f).passed, q, h, g, h', g')
 
-      pub resource_at : (l : List ℕ) → l ≡ resource_kind k x → l ≡ style_answer properties kinds numbers n (resource_of (found properties kinds numbers n p))
-      resource_at l q = rw (found_is, (stands at f).passed, q, h, g, h', g')
+        pub plain_at : (l : List ℕ) → l ≡ plain_kind k x → l ≡ style_answer properties kinds numbers n (plain_of (found properties kinds numbers n p))
+        plain_at l q = rw (found_is, (stands at f).passed, q, h, g, h', g')
 
-  module _ (f : r ≡ position.Absent) where
-    absent : (style_verdict properties kinds numbers n ≡ 0) × (found properties kinds numbers n p ≡ none)
-    absent =
-        let (a, b) = told_absent (style_verdict properties kinds numbers n) (place_of p (take n properties)) n (rw f at e) in
-        (a, look_none properties kinds numbers p n (accepted properties kinds numbers n _ refl a).counted.in_properties b)
+        pub resource_at : (l : List ℕ) → l ≡ resource_kind k x → l ≡ style_answer properties kinds numbers n (resource_of (found properties kinds numbers n p))
+        resource_at l q = rw (found_is, (stands at f).passed, q, h, g, h', g')
 
-    pub kind_absent : 0 ∷ [] ≡ style_answer properties kinds numbers n (kind_of (found properties kinds numbers n p))
-    kind_absent = rw (absent.1, absent.0)
+    module _ (f : o ≡ None) where
+      absent : (style_verdict properties kinds numbers n ≡ 0) × (found properties kinds numbers n p ≡ none)
+      absent =
+          let (a, b) = told_absent (style_verdict properties kinds numbers n) (place_of p (take n properties)) n (rw f at e) in
+          (a, look_none properties kinds numbers p n (accepted properties kinds numbers n (sym a)).counted.in_properties b)
 
-    pub plain_absent : 0 ∷ [] ≡ style_answer properties kinds numbers n (plain_of (found properties kinds numbers n p))
-    plain_absent = rw (absent.1, absent.0)
+      pub kind_absent : 0 ∷ [] ≡ style_answer properties kinds numbers n (kind_of (found properties kinds numbers n p))
+      kind_absent = rw (absent.1, absent.0)
 
-    pub resource_absent : 0 ∷ [] ≡ style_answer properties kinds numbers n (resource_of (found properties kinds numbers n p))
-    resource_absent = rw (absent.1, absent.0)
+      pub plain_absent : 0 ∷ [] ≡ style_answer properties kinds numbers n (plain_of (found properties kinds numbers n p))
+      plain_absent = rw (absent.1, absent.0)
 
-  pub refused_again : (s : Refusal) → r ≡ position.Refused s → (l : List ℕ) → told s ≡ style_answer properties kinds numbers n l
-  refused_again s f l = told_refused (style_verdict properties kinds numbers n) (place_of p (take n properties)) n s l (rw f at e)
+      pub resource_absent : 0 ∷ [] ≡ style_answer properties kinds numbers n (resource_of (found properties kinds numbers n p))
+      resource_absent = rw (absent.1, absent.0)
+
+  pub refused_again : (r : Refusal) → told r ≡ position_of properties kinds numbers n p → (l : List ℕ) → told r ≡ style_answer properties kinds numbers n l
+  refused_again r e l = told_refused (style_verdict properties kinds numbers n) (place_of p (take n properties)) n r l e
 
 pub ruleset places = (kind_in, kind_at, plain_at, resource_at, kind_absent, plain_absent, resource_absent, refused_again)

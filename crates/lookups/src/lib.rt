@@ -6,17 +6,14 @@ ghost use Rattle.style.specs.Looking.{containing_told, position_told, kind_told,
 
 use lent::Refusal;
 use lent::words::{wide, word};
-use style::{Containing, Length, Place, ResourceKey, StyleValueKind, StyleValueRef, held};
+use style::{StyleValueKind, StyleValueRef, held};
 
 // `Style::len`
-pub fn len(properties: &[u16], kinds: &[u32], numbers: &[u32], count: usize) -> Length
+pub fn len(properties: &[u16], kinds: &[u32], numbers: &[u32], count: usize) -> Result<u32, Refusal>
     ensures { length_told result ≡ style_answer properties.now kinds.now numbers.now count (0 ∷ count ∷ []) }
 {
-    let v = held::verdict(properties, kinds, numbers, count);
-    if v != 0 {
-        return Length::Refused(Refusal::of(v));
-    }
-    Length::Entries(count as u32)
+    held::check_style(properties, kinds, numbers, count)?;
+    Ok(count as u32)
 }
 
 // `Style::contains_id`
@@ -26,17 +23,11 @@ pub fn contains(
     numbers: &[u32],
     count: usize,
     property: u16,
-) -> Containing
+) -> Result<bool, Refusal>
     ensures { containing_told result ≡ containing_of properties.now kinds.now numbers.now count property }
 {
-    let v = held::verdict(properties, kinds, numbers, count);
-    if v != 0 {
-        return Containing::Refused(Refusal::of(v));
-    }
-    if held::place(properties, count, property) < count {
-        return Containing::Yes;
-    }
-    Containing::No
+    held::check_style(properties, kinds, numbers, count)?;
+    Ok(held::place(properties, count, property) < count)
 }
 
 // Where the property's entry stands, by a binary search.
@@ -46,18 +37,15 @@ pub fn position(
     numbers: &[u32],
     count: usize,
     property: u16,
-) -> Place
+) -> Result<Option<u32>, Refusal>
     ensures { position_told result ≡ position_of properties.now kinds.now numbers.now count property }
 {
-    let v = held::verdict(properties, kinds, numbers, count);
-    if v != 0 {
-        return Place::Refused(Refusal::of(v));
-    }
+    held::check_style(properties, kinds, numbers, count)?;
     let at = held::place(properties, count, property);
     if at < count {
-        return Place::At(at as u32);
+        return Ok(Some(at as u32));
     }
-    Place::Absent
+    Ok(None)
 }
 
 // `Style::value_kind`
@@ -67,13 +55,12 @@ pub fn value_kind(
     numbers: &[u32],
     count: usize,
     property: u16,
-) -> StyleValueKind
+) -> Result<Option<StyleValueKind>, Refusal>
     ensures { kind_told result ≡ style_answer properties.now kinds.now numbers.now count (kind_of (found properties.now kinds.now numbers.now count property)) }
 {
-    match position(properties, kinds, numbers, count, property) {
-        Place::At(at) => held::kind_of(word(kinds, wide(at)), word(numbers, wide(at))),
-        Place::Absent => StyleValueKind::Absent,
-        Place::Refused(r) => StyleValueKind::Refused(r),
+    match position(properties, kinds, numbers, count, property)? {
+        Some(at) => Ok(Some(held::kind_of(word(kinds, wide(at)), word(numbers, wide(at))))),
+        None => Ok(None),
     }
 }
 
@@ -84,13 +71,12 @@ pub fn value_ref(
     numbers: &[u32],
     count: usize,
     property: u16,
-) -> StyleValueRef
+) -> Result<Option<StyleValueRef>, Refusal>
     ensures { plain_told result ≡ style_answer properties.now kinds.now numbers.now count (plain_of (found properties.now kinds.now numbers.now count property)) }
 {
-    match position(properties, kinds, numbers, count, property) {
-        Place::At(at) => held::plain_of(word(kinds, wide(at)), word(numbers, wide(at))),
-        Place::Absent => StyleValueRef::Nothing,
-        Place::Refused(r) => StyleValueRef::Refused(r),
+    match position(properties, kinds, numbers, count, property)? {
+        Some(at) => Ok(held::plain_of(word(kinds, wide(at)), word(numbers, wide(at)))),
+        None => Ok(None),
     }
 }
 
@@ -101,13 +87,12 @@ pub fn resource_key(
     numbers: &[u32],
     count: usize,
     property: u16,
-) -> ResourceKey
+) -> Result<Option<u32>, Refusal>
     ensures { resource_told result ≡ style_answer properties.now kinds.now numbers.now count (resource_of (found properties.now kinds.now numbers.now count property)) }
 {
-    match position(properties, kinds, numbers, count, property) {
-        Place::At(at) => held::resource_of(word(kinds, wide(at)), word(numbers, wide(at))),
-        Place::Absent => ResourceKey::Nothing,
-        Place::Refused(r) => ResourceKey::Refused(r),
+    match position(properties, kinds, numbers, count, property)? {
+        Some(at) => Ok(held::resource_of(word(kinds, wide(at)), word(numbers, wide(at)))),
+        None => Ok(None),
     }
 }
 
@@ -120,11 +105,8 @@ pub fn property_ids<'a>(
 ) -> &'a [u16]
     ensures { Ids properties.now kinds.now numbers.now count properties.entry result }
 {
-    if held::verdict(properties, kinds, numbers, count) != 0 {
-        return &properties[0..0];
+    match held::check_style(properties, kinds, numbers, count) {
+        Ok(()) => &properties[..count],
+        Err(_) => &properties[..0],
     }
-    if properties.len() < count {
-        return &properties[0..0];
-    }
-    &properties[0..count]
 }

@@ -1,69 +1,59 @@
 -- What the reading calls answer, as numbers: 0 and what was read, or a refusal's own number. Assumes nothing.
-use Rattle.std.specs.Prelude.{◌≡◌, cond, not, ◌&&◌, List, [], ◌∷◌, ℕ, ◌+◌, length, drop, ltb, eqb}
-use Rattle.std.proofs.Math.Option.{Option, none, some}
+use Rattle.std.specs.Prelude.{◌≡◌, Bool, cond, not, ◌&&◌, List, [], ◌∷◌, ℕ, ◌+◌, length, drop, ltb, eqb, Result, Ok, Err, Option, Some, None}
+use Rattle.std.proofs.Math.Option.{none, some}
+use Rattle.std.proofs.Math.Option as math
 use Rattle.theory.specs.Sizes
 use Rattle.theory.specs.Paths.{Comb, child, descendant, Part}
-use Rattle.lent.specs.Refusals.{told, check, first_of, one_if, answered}
+use Rattle.lent.specs.declared.Refusal.{Refusal}
+use Rattle.lent.specs.Refusals.{check, first_of, one_if, answered, answer_told, yes_told, number_told}
 use Rattle.lent.specs.Pool.{start_of}
 use Rattle.selector.specs.Tags.{Tags}
-use Rattle.typed.specs.declared.TypeChoice.{TypeChoice}
-use Rattle.typed.specs.declared.PartChoice.{PartChoice}
+use Rattle.selector.specs.declared.Combinator.{Combinator}
+use Rattle.selector.specs.declared.Combinator.TheVariants.{Child, Descendant}
+use Rattle.steps.specs.declared.SelectorStep.{SelectorStep}
 use Rattle.steps.specs.Steps.{asking, step_from}
 use Rattle.style.specs.Entries.{Entry}
+use Rattle.style.specs.Looking.{found_told}
 use Rattle.sheet.specs.Layout
 use Rattle.sheet.specs.Sheets.{Style, Rule, is_nil, rule_at, sheet_of, rule_step_ends}
 use Rattle.sheet.specs.Shape.{sheet_shape}
-use Rattle.reading.specs.declared.Counting.{Counting}
-use Rattle.reading.specs.declared.Counting.TheVariants as counting
-use Rattle.reading.specs.declared.Emptiness.{Emptiness}
-use Rattle.reading.specs.declared.Emptiness.TheVariants as emptiness
-use Rattle.reading.specs.declared.RuleAnswer.{RuleAnswer}
-use Rattle.reading.specs.declared.RuleAnswer.TheVariants as rule
-use Rattle.reading.specs.declared.StyleAnswer.{StyleAnswer}
-use Rattle.reading.specs.declared.StyleAnswer.TheVariants as style
-use Rattle.reading.specs.declared.EntryAnswer.{EntryAnswer}
-use Rattle.reading.specs.declared.EntryAnswer.TheVariants as entry
-use Rattle.reading.specs.declared.CombinatorAnswer.{CombinatorAnswer}
-use Rattle.reading.specs.declared.CombinatorAnswer.TheVariants as comb
-use Rattle.reading.specs.declared.StepVerdict.{StepVerdict}
-use Rattle.reading.specs.declared.StepVerdict.TheVariants as step
-use Rattle.reading.specs.declared.StepAnswer.{StepAnswer}
+use Rattle.reading.specs.declared.MatchRule.{MatchRule}
+use Rattle.reading.specs.declared.DirectStyle.{DirectStyle}
+use Rattle.reading.specs.declared.StyleEntry.{StyleEntry}
 
 -- ---- each answer's numbers
 
-abbrev pub counting_told : Counting → List ℕ
-counting_told (counting.Count n) = 0 ∷ n ∷ []
-counting_told (counting.Refused r) = told r
+abbrev pub counting_told : Result ℕ Refusal → List ℕ
+counting_told r = number_told r
 
-abbrev pub emptiness_told : Emptiness → List ℕ
-emptiness_told emptiness.Yes = 0 ∷ 1 ∷ []
-emptiness_told emptiness.No = 0 ∷ 0 ∷ []
-emptiness_told (emptiness.Refused r) = told r
+abbrev pub emptiness_told : Result Bool Refusal → List ℕ
+emptiness_told r = yes_told r
 
-abbrev pub rule_told : RuleAnswer → List ℕ
-rule_told (rule.Rule r) = 0 ∷ r.origin ∷ r.source_index ∷ r.order ∷ r.step_count ∷ r.entry_count ∷ []
-rule_told (rule.Refused r) = told r
+abbrev pub rule_told : Result MatchRule Refusal → List ℕ
+rule_told r = answer_told (λ m. m.origin ∷ m.source_index ∷ m.order ∷ m.step_count ∷ m.entry_count ∷ []) r
 
-abbrev pub style_told : StyleAnswer → List ℕ
-style_told (style.Style d) = 0 ∷ d.origin ∷ d.source_index ∷ d.entry_count ∷ []
-style_told style.Absent = 0 ∷ []
-style_told (style.Refused r) = told r
+abbrev pub style_told : Result (Option DirectStyle) Refusal → List ℕ
+style_told r = answer_told (λ o. found_told (λ d. d.origin ∷ d.source_index ∷ d.entry_count ∷ []) o) r
 
-abbrev pub entry_told : EntryAnswer → List ℕ
-entry_told (entry.Entry p k n) = 0 ∷ p ∷ k ∷ n ∷ []
-entry_told entry.Absent = 0 ∷ []
-entry_told (entry.Refused r) = told r
+abbrev pub entry_told : Result (Option StyleEntry) Refusal → List ℕ
+entry_told r = answer_told (λ o. found_told (λ e. e.property ∷ e.kind ∷ e.number ∷ []) o) r
 
-abbrev pub combinator_told : CombinatorAnswer → List ℕ
-combinator_told comb.Child = 0 ∷ 0 ∷ []
-combinator_told comb.Descendant = 0 ∷ 1 ∷ []
-combinator_told comb.Absent = 0 ∷ []
-combinator_told (comb.Refused r) = told r
+abbrev pub combinator_number : Combinator → ℕ
+combinator_number Child = 0
+combinator_number Descendant = 1
 
-abbrev pub step_told : StepVerdict → List ℕ
-step_told step.Found = 0 ∷ 1 ∷ []
-step_told step.Absent = 0 ∷ []
-step_told (step.Refused r) = told r
+abbrev pub combinator_told : Result (Option Combinator) Refusal → List ℕ
+combinator_told r = answer_told (λ o. found_told (λ c. combinator_number c ∷ []) o) r
+
+-- that a step is there is told as 1
+abbrev pub step_told : Result (Option SelectorStep) Refusal → List ℕ
+step_told r = answer_told (λ o. found_told (λ s. 1 ∷ []) o) r
+
+-- the step that is found; the one that asks for nothing where there is none
+abbrev pub step_of : Result (Option SelectorStep) Refusal → SelectorStep
+step_of (Ok (Some s)) = s
+step_of (Ok None) = asking None None
+step_of (Err r) = asking None None
 
 -- ---- when they refuse
 
@@ -91,7 +81,7 @@ rule_numbers r = 0 ∷ r.origin ∷ r.source ∷ r.order ∷ length r.selector �
 abbrev pub style_numbers : Style → List ℕ
 style_numbers d = 0 ∷ d.origin ∷ d.source ∷ length d.entries ∷ []
 
-abbrev pub entry_numbers : Option Entry → List ℕ
+abbrev pub entry_numbers : math.Option Entry → List ℕ
 entry_numbers none = 0 ∷ []
 entry_numbers (some e) = 0 ∷ e.property ∷ e.kind ∷ e.number ∷ []
 
@@ -101,7 +91,7 @@ comb_numbers child = 0 ∷ 0 ∷ []
 comb_numbers descendant = 0 ∷ 1 ∷ []
 
 -- the combinator before a step
-abbrev pub combinator_numbers : Option (Part Tags) → List ℕ
+abbrev pub combinator_numbers : math.Option (Part Tags) → List ℕ
 combinator_numbers none = 0 ∷ []
 combinator_numbers (some p) = comb_numbers p.comb
 
@@ -110,9 +100,9 @@ abbrev pub style_there : List ℕ → ℕ → List ℕ → List ℕ
 style_there w d numbers = answered (sheet_verdict w) (cond (ltb d (Layout.styles_in w)) numbers (0 ∷ []))
 
 -- Step i of rule r as a typed value, read from its row; the step that asks for nothing where there is none
-pub record StepRead (w : List ℕ) (r i : ℕ) (a : StepAnswer) : Type 0 where
-  pub verdict : step_told a.verdict ≡ answered (rule_verdict w r) (cond (ltb i (length (rule_at w r).selector)) (0 ∷ 1 ∷ []) (0 ∷ []))
-  pub step : a.step
+pub record StepRead (w : List ℕ) (r i : ℕ) (a : Result (Option SelectorStep) Refusal) : Type 0 where
+  pub verdict : step_told a ≡ answered (rule_verdict w r) (cond (ltb i (length (rule_at w r).selector)) (0 ∷ 1 ∷ []) (0 ∷ []))
+  pub step : step_of a
       ≡ cond (eqb (rule_verdict w r) 0 && ltb i (length (rule_at w r).selector))
       (step_from (drop (Layout.step_place (start_of (rule_step_ends w) r + i)) w))
-      (asking TypeChoice.Unset PartChoice.Unset)
+      (asking None None)

@@ -1,12 +1,14 @@
 // A style's checks one by one, and look-ups for callers that hold it to its sizes and order already.
-ghost use Rattle.std.specs.Prelude.{◌≡◌, false, [], ◌∷◌, ◌≤◌, length, take, replicate};
+ghost use Rattle.std.specs.Prelude.{◌≡◌, false, [], ◌∷◌, ◌≤◌, length, take, replicate, Ok, Some};
 ghost use Rattle.std.proofs.lemmas.List.Edits.{sets};
+ghost use Rattle.lent.specs.Refusals.{verdict_of};
 ghost use Rattle.style.specs.Checks.{entries_over, kinds_over, properties_off, style_verdict};
 ghost use Rattle.style.specs.Looking.{kind_told, plain_told, resource_told, place_of, plain_kind, resource_kind};
 
-use crate::{ResourceKey, StyleValueKind, StyleValueRef};
+use crate::{StyleValueKind, StyleValueRef};
 use idset::held::lower_bound;
 use idset::{at_most, is_ascending};
+use lent::Refusal;
 use lent::words::widen_into;
 
 // Whether a count of n entries is over its size or past one of the lists.
@@ -51,19 +53,24 @@ pub fn properties_off(properties: &[u16], n: usize) -> bool
 }
 
 // 2, 6, 1.
-pub fn verdict(properties: &[u16], kinds: &[u32], numbers: &[u32], n: usize) -> u32
-    ensures { result ≡ style_verdict properties.now kinds.now numbers.now n }
+pub fn check_style(
+    properties: &[u16],
+    kinds: &[u32],
+    numbers: &[u32],
+    n: usize,
+) -> Result<(), Refusal>
+    ensures { verdict_of result ≡ style_verdict properties.now kinds.now numbers.now n }
 {
     if entries_over(properties, kinds, numbers, n) {
-        return 2;
+        return Err(Refusal::OverSize);
     }
     if kinds_over(kinds, n) {
-        return 6;
+        return Err(Refusal::CodeOutOfRange);
     }
     if properties_off(properties, n) {
-        return 1;
+        return Err(Refusal::NotAscending);
     }
-    0
+    Ok(())
 }
 
 // Where the property stands among the first n; n where it does not.
@@ -84,7 +91,7 @@ pub fn place(properties: &[u16], n: usize, property: u16) -> usize
 
 pub fn kind_of(kind: u32, number: u32) -> StyleValueKind
     requires { kind ≤ 3 }
-    ensures { kind_told result ≡ 0 ∷ kind ∷ number ∷ [] }
+    ensures { kind_told (Ok (Some result)) ≡ 0 ∷ kind ∷ number ∷ [] }
 {
     match kind {
         0 => StyleValueKind::Value(number),
@@ -94,21 +101,18 @@ pub fn kind_of(kind: u32, number: u32) -> StyleValueKind
     }
 }
 
-pub fn plain_of(kind: u32, number: u32) -> StyleValueRef
-    ensures { plain_told result ≡ plain_kind kind number }
+pub fn plain_of(kind: u32, number: u32) -> Option<StyleValueRef>
+    ensures { plain_told (Ok result) ≡ plain_kind kind number }
 {
     match kind {
-        0 => StyleValueRef::Value(number),
-        1 => StyleValueRef::Resource(number),
-        _ => StyleValueRef::Nothing,
+        0 => Some(StyleValueRef::Value(number)),
+        1 => Some(StyleValueRef::Resource(number)),
+        _ => None,
     }
 }
 
-pub fn resource_of(kind: u32, number: u32) -> ResourceKey
-    ensures { resource_told result ≡ resource_kind kind number }
+pub fn resource_of(kind: u32, number: u32) -> Option<u32>
+    ensures { resource_told (Ok result) ≡ resource_kind kind number }
 {
-    if kind == 1 {
-        return ResourceKey::Key(number);
-    }
-    ResourceKey::Nothing
+    if kind == 1 { Some(number) } else { None }
 }

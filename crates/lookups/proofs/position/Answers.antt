@@ -3,14 +3,14 @@ use Rattle.lookups.proofs.Accepted.{accepted}
 use Rattle.lookups.proofs.Answers.{verdicts}
 use Rattle.lookups.proofs.position.Goals as goal
 
-pub returns-then-v-ne0 : goal.returns-then-v-ne0
-returns-then-v-ne0 c = search (verdicts, rules)
+pub returns-in_err-check_style : goal.returns-in_err-check_style
+returns-in_err-check_style c = search (verdicts, rules)
 
 pub place-at-requires : goal.place-at-requires
-place-at-requires c = let a = accepted _ _ _ _ _ c.verdict-v.ensures c.if-v-ne0.false in search rules
+place-at-requires c = let a = accepted _ _ _ _ c.in_ok-check_style.ensures in search rules
 
 pub overflow_cast-result : goal.overflow_cast-result
-overflow_cast-result c = let a = accepted _ _ _ _ _ c.verdict-v.ensures c.if-v-ne0.false in search rules
+overflow_cast-result c = let a = accepted _ _ _ _ c.in_ok-check_style.ensures in search rules
 
 pub returns-then-at-count : goal.returns-then-at-count
 returns-then-at-count c = search (verdicts, rules)

@@ -1,15 +1,16 @@
 use borrow.Author.Rules.{rules}
-use Rattle.lookups.proofs.Answers.{places}
+use Rattle.lookups.proofs.Answers.{places, kind_at}
 use Rattle.lookups.proofs.value_kind.Goals as goal
 
 pub kind_of-requires : goal.kind_of-requires
 kind_of-requires c = search (places, rules)
 
-pub returns-in-At : goal.returns-in-At
-returns-in-At c = search (places, rules)
+pub returns-in-Some : goal.returns-in-Some
+returns-in-Some c =
+    kind_at _ _ _ _ _ _ c.in_ok-at.ensures _ _ _ c.in-Some.is c.wide.ensures c.word.ensures _ _ c.wide-in-Some.ensures c.word-in-Some.ensures _ c.kind_of.ensures
 
-pub returns-in-Absent : goal.returns-in-Absent
-returns-in-Absent c = search (places, rules)
+pub returns-in-None : goal.returns-in-None
+returns-in-None c = search (places, rules)
 
-pub returns-in-Refused : goal.returns-in-Refused
-returns-in-Refused c = search (places, rules)
+pub returns-in_err-at : goal.returns-in_err-at
+returns-in_err-at c = search (places, rules)

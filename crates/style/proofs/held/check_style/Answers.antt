@@ -2,7 +2,7 @@ use borrow.Author.Rules.{rules}
 use Rattle.style.specs.Checks.{style_verdict}
 use Rattle.lent.proofs.Refusals.{firsts}
 use Rattle.style.proofs.CheckLaws.{within}
-use Rattle.style.proofs.held.verdict.Goals as goal
+use Rattle.style.proofs.held.check_style.Goals as goal
 
 pub returns-then-entries_over : goal.returns-then-entries_over
 unfolding style_verdict
