@@ -12,6 +12,7 @@ use lib.ListN.{get_or, drop}
 use lib.Seq.{get_or-drop, drop-drop}
 use lib.Dec.{T, eqb}
 use borrow.Author.Tests.{lt-ltb, le-ltb, eqb-true, eq-eqb}
+use Rattle.std.specs.Prelude.{Ok}
 use Rattle.theory.specs.Lists.{spread}
 use Rattle.theory.specs.Paths.{Comb, child, descendant, Part, Selector, Goes, done, here, skip, Fits, Places}
 use Rattle.theory.specs.States.{descends}
@@ -23,7 +24,7 @@ use Rattle.theory.proofs.Level3.{represents_tail}
 use Rattle.selector.specs.Tags.{Tags, step_matches}
 use Rattle.selector.specs.Rows.{row_at, step_at, subject_at, comb_of, comb_before, selector_of, path_of}
 use Rattle.selector.specs.Checks.{path_verdict}
-use Rattle.selector.specs.Matching.{any_from, fits_from, far_at, fits, matching_told, yes_no, matching_of}
+use Rattle.selector.specs.Matching.{any_from, fits_from, far_at, fits, matching_told, matching_of}
 use Rattle.matching.proofs.Answers.{told_is}
 
 no_true : {A : Type 0} → false ≡ true → A
@@ -108,7 +109,7 @@ pub fits_places : (steps : List ℕ) (n : ℕ) (combinators path : List ℕ) (m 
     → (fits steps n combinators path m ≡ true) ↔ Places step_matches (selector_of steps combinators n) (path_of path m)
 fits_places steps n combinators path m = Iff.trans (fits_is steps n combinators path m) (places.fits_places step_matches _ _)
 
-yes_is : (b : Bool) → (matching_told (yes_no b) ≡ 0 ∷ 1 ∷ []) ↔ (b ≡ true)
+yes_is : (b : Bool) → (matching_told (Ok b) ≡ 0 ∷ 1 ∷ []) ↔ (b ≡ true)
 yes_is true = (λ _. refl, λ _. refl)
 yes_is false = (λ e. absurd (let z : ◌≡◌ {A = ℕ} 0 1 = cc in omega arith), λ e. no_true e)
 
@@ -117,7 +118,7 @@ pub matching_places : (steps : List ℕ) (n : ℕ) (combinators : List ℕ) (c :
     → (matching_of steps n combinators c path m ≡ 0 ∷ 1 ∷ []) ↔ Places step_matches (selector_of steps combinators n) (path_of path m)
 unfolding matching_of
 matching_places steps n combinators c path m z =
-    rw (told_is steps n combinators c path m _ refl z)
+    rw (told_is steps n combinators c path m (sym z))
     (Iff.trans (yes_is (fits steps n combinators path m)) (fits_places steps n combinators path m))
 
 -- ---- tails

@@ -1,28 +1,30 @@
--- Two verdicts that tell the same are the same: the record `Owned` determines an owned subject. Assumes nothing.
+-- Two answers that tell the same and hold the same are the same: the record `Owned` determines an owned subject. Assumes nothing.
 use mathlib.Core.Path.{◌≡◌, refl, sym, ap, ◌∙◌}
 use mathlib.Core.List.{List}
 use Prim.Native.Nat.{ℕ}
+use Rattle.std.specs.Prelude.{Option, Result, Ok, Err}
+use Rattle.lent.specs.declared.Refusal.{Refusal}
 use Rattle.lent.proofs.Refusals.{read_back, read_refused}
-use Rattle.owned.specs.declared.Verdict.{Verdict}
-use Rattle.owned.specs.declared.Verdict.TheVariants.{Accepted, Refused}
 use Rattle.typed.specs.declared.ClassId.{ClassId}
 use Rattle.typed.specs.declared.PseudoClassId.{PseudoClassId}
-use Rattle.typed.specs.declared.TypeChoice.{TypeChoice}
-use Rattle.typed.specs.declared.PartChoice.{PartChoice}
+use Rattle.typed.specs.declared.TypeTag.{TypeTag}
+use Rattle.typed.specs.declared.PartTag.{PartTag}
+use Rattle.typed.specs.declared.SelectorInputs.{SelectorInputs}
 use Rattle.owned.specs.declared.SelectorInputsOwned.{SelectorInputsOwned}
-use Rattle.owned.specs.Owned.{verdict_told, Owned}
+use Rattle.owned.specs.Owned.{verdict_told, inputs_held, Owned}
 
-read_verdict : List ℕ → Verdict
-read_verdict = read_back (λ l. Accepted) Refused
+-- the answer that tells these numbers and holds this subject
+read_owned : SelectorInputs → List ℕ → Result SelectorInputsOwned Refusal
+read_owned x = read_back (λ l. Ok (record { inputs = x })) Err
 
-read_verdict_lem : (a : Verdict) → read_verdict (verdict_told a) ≡ a
-unfolding read_verdict read_back
-read_verdict_lem Accepted = refl
-read_verdict_lem (Refused r) = read_refused _ Refused r
+read_owned_lem : (a : Result SelectorInputsOwned Refusal) → read_owned (inputs_held a) (verdict_told a) ≡ a
+unfolding read_owned read_back
+read_owned_lem (Ok x) = refl
+read_owned_lem (Err r) = read_refused _ Err r
 
-pub verdict_distinct : (a b : Verdict) → verdict_told a ≡ verdict_told b → a ≡ b
-verdict_distinct a b e = sym (read_verdict_lem a) ∙ ap read_verdict e ∙ read_verdict_lem b
+pub verdict_distinct : (a b : Result SelectorInputsOwned Refusal) → verdict_told a ≡ verdict_told b → inputs_held a ≡ inputs_held b → a ≡ b
+verdict_distinct a b e f = sym (read_owned_lem a) ∙ rw (e, f) (read_owned_lem b)
 
-pub owned_distinct : {t : TypeChoice} {p : PartChoice} {classes : List ClassId} {n : ℕ} {pseudos : List PseudoClassId} {m : ℕ} (a b : SelectorInputsOwned)
-    → Owned t p classes n pseudos m a → Owned t p classes n pseudos m b → (a.verdict ≡ b.verdict) × (a.inputs ≡ b.inputs)
-owned_distinct a b h k = (verdict_distinct a.verdict b.verdict (h.verdict ∙ sym k.verdict), h.inputs ∙ sym k.inputs)
+pub owned_distinct : {t : Option TypeTag} {p : Option PartTag} {classes : List ClassId} {n : ℕ} {pseudos : List PseudoClassId} {m : ℕ} (a b : Result SelectorInputsOwned Refusal)
+    → Owned t p classes n pseudos m a → Owned t p classes n pseudos m b → a ≡ b
+owned_distinct a b h k = verdict_distinct a b (h.verdict ∙ sym k.verdict) (h.inputs ∙ sym k.inputs)

@@ -16,10 +16,10 @@ use Rattle.lent.specs.Refusals.{first_of}
 use Rattle.lent.specs.declared.Refusal.TheVariants.{OverSize}
 use Rattle.typed.specs.declared.ClassId.{ClassId}
 use Rattle.typed.specs.declared.PseudoClassId.{PseudoClassId}
-use Rattle.typed.specs.declared.TypeChoice.{TypeChoice}
-use Rattle.typed.specs.declared.PartChoice.{PartChoice}
+use Rattle.typed.specs.declared.TypeTag.{TypeTag}
+use Rattle.typed.specs.declared.PartTag.{PartTag}
 use Rattle.typed.specs.declared.SelectorInputs.{SelectorInputs}
-use Rattle.owned.specs.declared.Verdict.TheVariants.{Accepted, Refused}
+use Rattle.std.specs.Prelude.{Option, None, Ok, Err}
 use Rattle.owned.specs.declared.SelectorInputsOwned.{SelectorInputsOwned}
 use Rattle.selector.proofs.RowLaws.{words_few}
 use Rattle.selector.specs.Rows.{tag_number, words_from}
@@ -45,15 +45,14 @@ sorted_spelled given l m c s mid row i j e f g h k u q =
     let b = padded {n = 16} k (omega (arith, sort_length m, words_few 16 given m 22 (get_or given 5 0) f g.1)) in
     q ∙ rw (u, a, b, h.count, k.count, e, f)
 
-module _ (t : TypeChoice) (p : PartChoice) (classes : List ClassId) (n : ℕ) (pseudos : List PseudoClassId) (m : ℕ) where
-  module _ (r : SelectorInputsOwned) (e : r ≡ record { verdict = Refused OverSize; inputs = tagged TypeChoice.Unset PartChoice.Unset }) where
-    pub owned_classes : 16 < n → Owned t p classes n pseudos m r
-    unfolding owned_verdict owned_inputs first_of
-    owned_classes h = record { verdict = rw (e, lt-ltb 16 n h); inputs = rw (e, lt-ltb 16 n h) }
+module _ (t : Option TypeTag) (p : Option PartTag) (classes : List ClassId) (n : ℕ) (pseudos : List PseudoClassId) (m : ℕ) where
+  pub owned_classes : 16 < n → Owned t p classes n pseudos m (Err OverSize)
+  unfolding owned_verdict owned_inputs first_of
+  owned_classes h = record { verdict = rw (lt-ltb 16 n h); inputs = rw (lt-ltb 16 n h) }
 
-    pub owned_pseudos : n ≤ 16 → 16 < m → Owned t p classes n pseudos m r
-    unfolding owned_verdict owned_inputs first_of
-    owned_pseudos g h = record { verdict = rw (e, le-ltb 16 n g, lt-ltb 16 m h); inputs = rw (e, le-ltb 16 n g, lt-ltb 16 m h) }
+  pub owned_pseudos : n ≤ 16 → 16 < m → Owned t p classes n pseudos m (Err OverSize)
+  unfolding owned_verdict owned_inputs first_of
+  owned_pseudos g h = record { verdict = rw (le-ltb 16 n g, lt-ltb 16 m h); inputs = rw (le-ltb 16 n g, lt-ltb 16 m h) }
 
   module _ (x : SelectorInputs) (row : List ℕ) (e : x ≡ inputs_of t p classes n pseudos m) (f : row ≡ inputs_row x) (h : n ≤ 16) (g : m ≤ 16) where
     pub owned_class_count : get_or row 4 0 ≤ 16
@@ -64,7 +63,7 @@ module _ (t : TypeChoice) (p : PartChoice) (classes : List ClassId) (n : ℕ) (p
 
     pub owned_accepted : (y : SelectorInputs) (sorted : List ℕ)
         → sorted ≡ ids_row (sort (words_from row 6 (get_or row 4 0))) (sort (words_from row 22 (get_or row 5 0))) → y ≡ inputs_with t p sorted
-        → Owned t p classes n pseudos m (record { verdict = Accepted; inputs = y })
+        → Owned t p classes n pseudos m (Ok (record { inputs = y }))
     unfolding owned_verdict owned_inputs first_of
     owned_accepted y sorted q k =
         let a = row_classes 16 (is_set (type_of t)) (tag_number (type_of t)) (is_set (part_of p)) (tag_number (part_of p)) n m (class_number classes) (pseudo_number pseudos) n h in

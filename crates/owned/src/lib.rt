@@ -1,28 +1,19 @@
 // Subjects whose ids are sorted and made unique, by value.
 #![tactic(auto)]
 
-ghost use Rattle.std.specs.Prelude.{◌≡◌, ◌≤◌, get_or};
+ghost use Rattle.std.specs.Prelude.{◌≡◌, ◌≤◌, get_or, None};
 ghost use Rattle.theory.specs.Lists.{sort};
 ghost use Rattle.selector.specs.Rows.{words_from};
-ghost use Rattle.typed.specs.Typed.{tagged};
 ghost use Rattle.owned.specs.Owned.{ids_row, Owned};
 
 use lent::Refusal;
 use lent::words::copy_into;
 use selector::held::ids;
-use typed::{ClassId, PartChoice, PseudoClassId, SelectorInputs, TypeChoice};
+use typed::{ClassId, PartTag, PseudoClassId, SelectorInputs, TypeTag};
 
-// Whether a call was accepted.
-#[derive(Clone, Copy)]
-pub enum Verdict {
-    Accepted,
-    Refused(Refusal),
-}
-
-// A subject whose ids were sorted and made unique; the empty one where they were refused.
+// A subject whose ids were sorted and made unique.
 #[derive(Clone, Copy)]
 pub struct SelectorInputsOwned {
-    pub verdict: Verdict,
     pub inputs: SelectorInputs,
 }
 
@@ -44,52 +35,35 @@ fn sorted_row(given: [u32; 38]) -> [u32; 38]
 }
 
 impl SelectorInputsOwned {
-    fn over_size() -> Self
-        ensures { result ≡ record { verdict = Verdict.Refused Refusal.OverSize; inputs = tagged TypeChoice.Unset PartChoice.Unset } }
-    {
-        let none = SelectorInputs::EMPTY;
-        Self {
-            verdict: Verdict::Refused(Refusal::OverSize),
-            inputs: none,
-        }
-    }
-
     // Without a part.
     pub fn new(
-        type_tag: TypeChoice,
+        type_tag: Option<TypeTag>,
         classes: [ClassId; 16],
         class_count: u32,
         pseudos: [PseudoClassId; 16],
         pseudo_count: u32,
-    ) -> Self
-        ensures { Owned type_tag PartChoice.Unset classes class_count pseudos pseudo_count result }
+    ) -> Result<SelectorInputsOwned, Refusal>
+        ensures { Owned type_tag None classes class_count pseudos pseudo_count result }
     {
-        Self::with_part(
-            type_tag,
-            PartChoice::Unset,
-            classes,
-            class_count,
-            pseudos,
-            pseudo_count,
-        )
+        Self::with_part(type_tag, None, classes, class_count, pseudos, pseudo_count)
     }
 
     // The ids in any order and repeated.
     pub fn with_part(
-        type_tag: TypeChoice,
-        part_tag: PartChoice,
+        type_tag: Option<TypeTag>,
+        part_tag: Option<PartTag>,
         classes: [ClassId; 16],
         class_count: u32,
         pseudos: [PseudoClassId; 16],
         pseudo_count: u32,
-    ) -> Self
+    ) -> Result<SelectorInputsOwned, Refusal>
         ensures { Owned type_tag part_tag classes class_count pseudos pseudo_count result }
     {
         if 16 < class_count {
-            return Self::over_size();
+            return Err(Refusal::OverSize);
         }
         if 16 < pseudo_count {
-            return Self::over_size();
+            return Err(Refusal::OverSize);
         }
         let given = SelectorInputs::with_part(
             type_tag,
@@ -100,9 +74,6 @@ impl SelectorInputsOwned {
             pseudo_count,
         );
         let inputs = SelectorInputs::from_words(type_tag, part_tag, sorted_row(given.row()));
-        Self {
-            verdict: Verdict::Accepted,
-            inputs,
-        }
+        Ok(SelectorInputsOwned { inputs })
     }
 }

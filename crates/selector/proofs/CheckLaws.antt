@@ -13,7 +13,7 @@ use Rattle.theory.proofs.Lists.{or_first, or_second, le_or_lt}
 use Rattle.lent.specs.All.{all_below}
 use Rattle.lent.specs.Refusals.{check, first_of}
 use Rattle.lent.proofs.All.{Sofar, sofar_start, sofar_done, sofar_more, sofar_fails}
-use Rattle.lent.proofs.Refusals.{first_under, first_clear}
+use Rattle.lent.proofs.Refusals.{first_clear}
 use Rattle.selector.specs.Rows.{words_from, row_at}
 use Rattle.selector.specs.Checks.{row_fits, selector_over, path_over, combinators_off, codes_over, tags_ascend, selector_verdict}
 
@@ -130,16 +130,12 @@ first_after true t u v r e z g = absurd (omega arith)
 first_after false true u v r e z g = absurd (omega arith)
 first_after false false u v r e z g = g
 
--- an accepted selector's counts are within their sizes, and a refusal's number is below 10
+-- an accepted selector's counts are within their sizes
 module _ (steps : List ℕ) (n : ℕ) (combinators : List ℕ) (c : ℕ) where
-  pub selector_number : selector_verdict steps n combinators c < 10
-  unfolding selector_verdict
-  selector_number = first_under 2 10 _ _ (omega arith) (first_under 3 10 _ _ (omega arith) (first_under 6 10 _ [] (omega arith) (unfold first_of in omega arith)))
-
-  pub selector_passed : (v : ℕ) → v ≡ selector_verdict steps n combinators c → v ≡ 0 → (n ≤ 8) × (all_below n (λ k. row_fits 8 steps (22 * k)) ≡ true)
+  pub selector_passed : 0 ≡ selector_verdict steps n combinators c → (n ≤ 8) × (all_below n (λ k. row_fits 8 steps (22 * k)) ≡ true)
   unfolding selector_verdict selector_over
-  selector_passed v e z =
-      let (o, _) = first_clear 2 (selector_over steps n combinators c) _ (omega arith) (sym e ∙ z) in (
+  selector_passed e =
+      let (o, _) = first_clear 2 (selector_over steps n combinators c) _ (omega arith) (sym e) in (
         ltb-false 8 n (or_first (ltb 8 n) _ o),
         not-false _ (or_second (ltb (length combinators) c) _ (or_second (ltb (length steps / 22) n) _ (or_second (ltb 8 n) _ o))),
       )

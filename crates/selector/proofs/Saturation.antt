@@ -1,5 +1,5 @@
 -- 01: "Prove that the Rust's saturation is never met." The Rust saturates at 4,294,967,295; no sum of a selector passes 64. Assumes nothing.
-use mathlib.Core.Path.{◌≡◌, refl}
+use mathlib.Core.Path.{◌≡◌, refl, sym}
 use mathlib.Core.Bool.{true}
 use mathlib.Core.List.{List}
 use mathlib.Core.Option.{Option, none, some}
@@ -63,5 +63,5 @@ few_unsaturated f k n h each =
 pub never_saturates : (steps : List ℕ) (n : ℕ) (combinators : List ℕ) (c : ℕ) → selector_verdict steps n combinators c ≡ 0 → Unsaturated (counts_in steps n)
 unfolding counts_in
 never_saturates steps n combinators c z =
-    let (few, rows) = selector_passed steps n combinators c _ refl z in
+    let (few, rows) = selector_passed steps n combinators c (sym z) in
     few_unsaturated (λ k. counts_of (step_at steps k)) 0 n few (λ k l. rw (zero-add k) (step_few steps k (all_at _ n k l rows)))

@@ -15,17 +15,16 @@ use Rattle.theory.specs.Weight.{Counts}
 use Rattle.theory.proofs.Lists.{and_left, and_right, sort_length}
 use Rattle.lent.specs.All.{all_below}
 use Rattle.idset.specs.Buffers.{Holds}
-use Rattle.lent.specs.Refusals.{told, refusal_of}
+use Rattle.lent.specs.Refusals.{number_of, told}
 use Rattle.lent.specs.declared.Refusal.{Refusal}
 use Rattle.lent.proofs.All.{all_at}
-use Rattle.lent.proofs.Refusals.{told_of_lem}
+use Rattle.lent.proofs.Refusals.{refused_first}
 use Rattle.selector.specs.declared.Specificity.{Specificity}
 use Rattle.selector.specs.Tags.{as_sets}
 use Rattle.selector.specs.Rows.{tag_of, words_from, row_at, step_at}
 use Rattle.selector.specs.Checks.{row_fits, selector_verdict}
 use Rattle.selector.specs.Weighing.{is_set, counts_of, counts_in, Counted, Summed, weighing_of}
 use Rattle.selector.proofs.RowLaws.{words_few}
-use Rattle.selector.proofs.CheckLaws.{selector_number}
 
 -- ---- one step
 
@@ -141,17 +140,16 @@ row_at_lem steps n k p h = all_at (λ j. row_fits 8 steps (22 * j)) n k h p.1
 
 -- ---- the answer
 
-module _ (steps : List ℕ) (n : ℕ) (combinators : List ℕ) (c v : ℕ) (e : v ≡ selector_verdict steps n combinators c) where
-  pub weigh_refused : (ranking : ℕ) (r : Refusal) → r ≡ refusal_of v → (v ≡ 0 → ⊥) → told r ≡ weighing_of ranking steps n combinators c
-  unfolding weighing_of
-  weigh_refused ranking r f h =
-      let few : v < 10 = rw e (selector_number steps n combinators c) in
-      rw (f, ← e, ne_eqb v 0 h) (told_of_lem v (omega arith) (omega arith) (λ t. omega arith))
+module _ (steps : List ℕ) (n : ℕ) (combinators : List ℕ) (c : ℕ) where
+  pub weigh_refused : (ranking : ℕ) (r : Refusal) → number_of r ≡ selector_verdict steps n combinators c → told r ≡ weighing_of ranking steps n combinators c
+  unfolding weighing_of selector_verdict
+  weigh_refused ranking r e = refused_first _ r _ refl e
 
-  pub weigh_sums : (s : Specificity) → v ≡ 0 → Summed (counts_in steps n) s → 0 ∷ s.0 ∷ s.1 ∷ s.2 ∷ s.3 ∷ [] ≡ weighing_of 0 steps n combinators c
-  unfolding weighing_of
-  weigh_sums s z m = rw (← e, z, m.pseudos, m.classes, m.parts, m.types)
+  module _ (e : 0 ≡ selector_verdict steps n combinators c) (s : Specificity) (m : Summed (counts_in steps n) s) where
+    pub weigh_sums : 0 ∷ s.0 ∷ s.1 ∷ s.2 ∷ s.3 ∷ [] ≡ weighing_of 0 steps n combinators c
+    unfolding weighing_of
+    weigh_sums = rw (← e, m.pseudos, m.classes, m.parts, m.types)
 
-  pub weigh_level3 : (s : Specificity) → v ≡ 0 → Summed (counts_in steps n) s → 0 ∷ (s.1 + s.0) ∷ (s.3 + s.2) ∷ 0 ∷ 0 ∷ [] ≡ weighing_of 1 steps n combinators c
-  unfolding weighing_of
-  weigh_level3 s z m = rw (← e, z, m.pseudos, m.classes, m.parts, m.types)
+    pub weigh_level3 : 0 ∷ (s.1 + s.0) ∷ (s.3 + s.2) ∷ 0 ∷ 0 ∷ [] ≡ weighing_of 1 steps n combinators c
+    unfolding weighing_of
+    weigh_level3 = rw (← e, m.pseudos, m.classes, m.parts, m.types)

@@ -8,7 +8,7 @@ use lib.Dec.{ltb}
 use borrow.Author.Tests.{ltb-false, not-true, not-false}
 use Rattle.theory.proofs.Lists.{and_left, and_right}
 use Rattle.theory.specs.Lists.{total}
-use Rattle.lent.specs.Refusals.{first_of}
+use Rattle.lent.specs.Refusals.{first_of, one_if}
 use Rattle.selector.specs.declared.Specificity.{Specificity}
 use Rattle.selector.specs.Tags.{as_sets, step_matches}
 use Rattle.selector.specs.Rows.{row_at}
@@ -106,10 +106,6 @@ module _ (s : SelectorStep) (ws : List ℕ) (e : ws ≡ step_row s) (b : Bool) (
           answer : step_matches (as_sets (step_tags s)) (inputs_tags x) ≡ q
           answer = sym (rw (step_is t, subject_is) at k)
 
-          pub step_yes : q ≡ true → 0 ∷ 1 ∷ [] ≡ step_matching s x
+          pub step_answered : 0 ∷ one_if q ∷ [] ≡ step_matching s x
           unfolding step_matching step_verdict first_of
-          step_yes v = rw (step_counts, t, subject_counts, t', ascent, u, answer, v)
-
-          pub step_no : q ≡ false → 0 ∷ 0 ∷ [] ≡ step_matching s x
-          unfolding step_matching step_verdict first_of
-          step_no v = rw (step_counts, t, subject_counts, t', ascent, u, answer, v)
+          step_answered = rw (step_counts, t, subject_counts, t', ascent, u, answer)

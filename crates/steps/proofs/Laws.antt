@@ -3,10 +3,11 @@ use mathlib.Core.Path.{◌≡◌, ◌∙◌}
 use mathlib.Core.List.{List}
 use Prim.Native.Nat.{ℕ, ◌≤◌}
 use lib.ListN.{get_or}
+use Rattle.std.specs.Prelude.{Option}
 use Rattle.theory.specs.Lists.{spread}
 use Rattle.selector.specs.Rows.{row_at}
-use Rattle.typed.specs.declared.TypeChoice.{TypeChoice}
-use Rattle.typed.specs.declared.PartChoice.{PartChoice}
+use Rattle.typed.specs.declared.TypeTag.{TypeTag}
+use Rattle.typed.specs.declared.PartTag.{PartTag}
 use Rattle.typed.specs.Typed.{type_of, part_of, class_number, pseudo_number, row_type, row_part}
 use Rattle.typed.proofs.Laws.{row_tags}
 use Rattle.steps.specs.declared.SelectorStep.{SelectorStep}
@@ -16,6 +17,6 @@ pub step_row_lem : (s : SelectorStep) → s.class_count ≤ 8 → s.pseudo_count
 unfolding step_tags
 step_row_lem s h g = row_tags 8 s.class_count s.pseudo_count (type_of s.type_tag) (part_of s.part_tag) (class_number s.required_classes) (pseudo_number s.required_pseudos) h g
 
-pub step_read : (row w : List ℕ) (t : TypeChoice) (p : PartChoice) (s : SelectorStep)
+pub step_read : (row w : List ℕ) (t : Option TypeTag) (p : Option PartTag) (s : SelectorStep)
     → w ≡ spread (λ k. get_or row k 0) 0 22 → t ≡ row_type w → p ≡ row_part w → s ≡ step_with t p w → s ≡ step_from row
 step_read row w t p s e f g h = h ∙ rw (f, g, e)

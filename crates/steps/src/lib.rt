@@ -1,36 +1,27 @@
 // Steps by value, with typed numbers: the rows that they are written to and read from, whether a subject matches a step, and a step's weight.
 #![tactic(auto)]
 
-ghost use Rattle.std.specs.Prelude.{◌≡◌, ℕ, drop, get_or};
-ghost use Rattle.theory.specs.Lists.{spread};
+ghost use Rattle.std.specs.Prelude.{◌≡◌, drop, Some, None};
 ghost use Rattle.selector.specs.Matching.{matching_told};
 ghost use Rattle.selector.specs.Weighing.{weighing_told};
-ghost use Rattle.typed.specs.declared.TypeChoice.{TypeChoice};
-ghost use Rattle.typed.specs.declared.PartChoice.{PartChoice};
 ghost use Rattle.typed.specs.Typed.{class_number, pseudo_number, row_with};
 ghost use Rattle.steps.specs.Steps.{asking, asking_type, asking_part, asking_class, asking_pseudo, step_row, step_with, step_from, step_matching, step_weighing};
 
 use lent::Refusal;
-use lent::words::{copy_into, wide};
+use lent::words::wide;
+use selector::Specificity;
 use selector::held::{matches_row, row_ascends, row_fits};
-use selector::{Matching, Specificity, Weighing};
-use typed::{ClassId, PartChoice, PartTag, PseudoClassId, SelectorInputs, TypeChoice, TypeTag};
+use typed::{
+    ClassId, PartTag, PseudoClassId, SelectorInputs, TypeTag, row_words, tag_flag, tag_from_words,
+    tag_number,
+};
 use weight::held::step_specificity;
-
-// The words from `at` on, a step row's number of them.
-fn step_words(words: &[u32], at: usize) -> [u32; 22]
-    ensures { result ≡ spread (λ (k : ℕ). get_or (drop at words.now) k 0) 0 22 }
-{
-    let mut row = [0u32; 22];
-    copy_into(&mut row, 0, lent::held::part(words, at, words.len()));
-    row
-}
 
 // A step of a selector. What it requires are the sets of the ids given, the first of each array; a count over 8 is refused where the step is used.
 #[derive(Clone, Copy)]
 pub struct SelectorStep {
-    pub type_tag: TypeChoice,
-    pub part_tag: PartChoice,
+    pub type_tag: Option<TypeTag>,
+    pub part_tag: Option<PartTag>,
     pub required_classes: [ClassId; 8],
     pub class_count: u32,
     pub required_pseudos: [PseudoClassId; 8],
@@ -39,8 +30,8 @@ pub struct SelectorStep {
 
 impl SelectorStep {
     const ANY: SelectorStep = SelectorStep {
-        type_tag: TypeChoice::Unset,
-        part_tag: PartChoice::Unset,
+        type_tag: None,
+        part_tag: None,
         required_classes: [ClassId(0); 8],
         class_count: 0,
         required_pseudos: [PseudoClassId(0); 8],
@@ -49,37 +40,37 @@ impl SelectorStep {
 
     // The step that every subject matches: the Rust's `default`.
     pub fn any() -> Self
-        ensures { result ≡ asking TypeChoice.Unset PartChoice.Unset }
+        ensures { result ≡ asking None None }
     {
         Self::ANY
     }
 
     pub fn type_tag(type_tag: TypeTag) -> Self
-        ensures { result ≡ asking (TypeChoice.Set type_tag) PartChoice.Unset }
+        ensures { result ≡ asking (Some type_tag) None }
     {
         Self {
-            type_tag: TypeChoice::Set(type_tag),
+            type_tag: Some(type_tag),
             ..Self::ANY
         }
     }
 
     pub fn part_tag(part_tag: PartTag) -> Self
-        ensures { result ≡ asking TypeChoice.Unset (PartChoice.Set part_tag) }
+        ensures { result ≡ asking None (Some part_tag) }
     {
         Self {
-            part_tag: PartChoice::Set(part_tag),
+            part_tag: Some(part_tag),
             ..Self::ANY
         }
     }
 
     pub fn class(class_id: ClassId) -> Self
-        ensures { result ≡ asking_class (asking TypeChoice.Unset PartChoice.Unset) class_id }
+        ensures { result ≡ asking_class (asking None None) class_id }
     {
         Self::ANY.with_class(class_id)
     }
 
     pub fn pseudo(pseudo_id: PseudoClassId) -> Self
-        ensures { result ≡ asking_pseudo (asking TypeChoice.Unset PartChoice.Unset) pseudo_id }
+        ensures { result ≡ asking_pseudo (asking None None) pseudo_id }
     {
         Self::ANY.with_pseudo(pseudo_id)
     }
@@ -88,7 +79,7 @@ impl SelectorStep {
         ensures { result ≡ asking_type self type_tag }
     {
         Self {
-            type_tag: TypeChoice::Set(type_tag),
+            type_tag: Some(type_tag),
             ..self
         }
     }
@@ -97,7 +88,7 @@ impl SelectorStep {
         ensures { result ≡ asking_part self part_tag }
     {
         Self {
-            part_tag: PartChoice::Set(part_tag),
+            part_tag: Some(part_tag),
             ..self
         }
     }
@@ -137,7 +128,7 @@ impl SelectorStep {
     {
         let t = self.type_tag;
         let p = self.part_tag;
-        self.row_with(t.flag(), t.number(), p.flag(), p.number())
+        self.row_with(tag_flag(t), tag_number(t), tag_flag(p), tag_number(p))
     }
 
     fn row_with(self, type_flag: u32, type_tag: u32, part_flag: u32, part_tag: u32) -> [u32; 22]
@@ -175,15 +166,11 @@ impl SelectorStep {
     pub fn from_row(words: &[u32], at: usize) -> Self
         ensures { result ≡ step_from (drop at words.now) }
     {
-        let w = step_words(words, at);
-        Self::from_words(
-            TypeChoice::from_words(w[0], w[1]),
-            PartChoice::from_words(w[2], w[3]),
-            w,
-        )
+        let w: [u32; 22] = row_words(words, at);
+        Self::from_words(tag_from_words(w[0], w[1]), tag_from_words(w[2], w[3]), w)
     }
 
-    fn from_words(type_tag: TypeChoice, part_tag: PartChoice, w: [u32; 22]) -> Self
+    fn from_words(type_tag: Option<TypeTag>, part_tag: Option<PartTag>, w: [u32; 22]) -> Self
         ensures { result ≡ step_with type_tag part_tag w }
     {
         let required_classes = [
@@ -217,46 +204,43 @@ impl SelectorStep {
     }
 
     // Whether the subject matches the step.
-    pub fn matches(self, inputs: SelectorInputs) -> Matching
+    pub fn matches(self, inputs: SelectorInputs) -> Result<bool, Refusal>
         ensures { matching_told result ≡ step_matching self inputs }
     {
         let s = self.row();
         if !row_fits(&s, 0, 8) {
-            return Matching::Refused(Refusal::OverSize);
+            return Err(Refusal::OverSize);
         }
         let x = inputs.row();
         if !row_fits(&x, 0, 16) {
-            return Matching::Refused(Refusal::OverSize);
+            return Err(Refusal::OverSize);
         }
         if !row_ascends(&x, 0) {
-            return Matching::Refused(Refusal::NotAscending);
+            return Err(Refusal::NotAscending);
         }
-        if matches_row(&s, 0, &x, 0) {
-            return Matching::Yes;
-        }
-        Matching::No
+        Ok(matches_row(&s, 0, &x, 0))
     }
 
     // Ranking 0: pseudos, classes, parts, types.
-    pub fn specificity(self) -> Weighing
+    pub fn specificity(self) -> Result<Specificity, Refusal>
         ensures { weighing_told result ≡ step_weighing 0 self }
     {
         let s = self.row();
         if !row_fits(&s, 0, 8) {
-            return Weighing::Refused(Refusal::OverSize);
+            return Err(Refusal::OverSize);
         }
-        Weighing::Weighs(step_specificity(&s, 0))
+        Ok(step_specificity(&s, 0))
     }
 
     // Ranking 1: Level 3's counts, classes and pseudos, then types and parts.
-    pub fn level3_specificity(self) -> Weighing
+    pub fn level3_specificity(self) -> Result<Specificity, Refusal>
         ensures { weighing_told result ≡ step_weighing 1 self }
     {
         let s = self.row();
         if !row_fits(&s, 0, 8) {
-            return Weighing::Refused(Refusal::OverSize);
+            return Err(Refusal::OverSize);
         }
         let w = step_specificity(&s, 0);
-        Weighing::Weighs(Specificity(w.1 + w.0, w.3 + w.2, 0, 0))
+        Ok(Specificity(w.1 + w.0, w.3 + w.2, 0, 0))
     }
 }

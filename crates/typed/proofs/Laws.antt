@@ -1,6 +1,7 @@
 -- Laws of subjects by value, and of rows, over the size of their arrays. Assumes nothing.
 use mathlib.Core.Path.{◌≡◌, refl, sym, ap, ◌∙◌}
-use mathlib.Core.Option.{Option, none, some}
+use mathlib.Core.Option as maybe
+use Rattle.std.specs.Prelude.{Option}
 use mathlib.Core.List.{List, [], ◌∷◌}
 use Prim.Native.Nat.{ℕ, zero, suc, ◌+◌, ◌-◌, ◌≤◌}
 use native.Mathlib.Nat.{zero-add}
@@ -9,8 +10,8 @@ use lib.ListN.{length, get_or, take, drop, set, replicate, length-drop}
 use lib.Seq.{sets, take_all, take-append-le, drop_at, drop-drop}
 use Rattle.theory.specs.Lists.{spread}
 use Rattle.theory.proofs.Spreads.{length_spread, take_spread}
-use Rattle.typed.specs.declared.TypeChoice.{TypeChoice}
-use Rattle.typed.specs.declared.PartChoice.{PartChoice}
+use Rattle.typed.specs.declared.TypeTag.{TypeTag}
+use Rattle.typed.specs.declared.PartTag.{PartTag}
 use Rattle.typed.specs.declared.SelectorInputs.{SelectorInputs}
 use Rattle.selector.specs.Rows.{tag_of, tag_number, row_at}
 use Rattle.selector.specs.Weighing.{is_set}
@@ -42,9 +43,9 @@ copied n words l w at e f = f ∙ ap (sets (replicate n 0) 0) (e ∙ take_all (l
 
 -- ---- rows
 
-tag_back : (t : Option ℕ) → tag_of (is_set t) (tag_number t) ≡ t
-tag_back none = refl
-tag_back (some n) = refl
+tag_back : (t : maybe.Option ℕ) → tag_of (is_set t) (tag_number t) ≡ t
+tag_back maybe.none = refl
+tag_back (maybe.some n) = refl
 
 module _ (size tf t pf p n m : ℕ) (class pseudo : ℕ → ℕ) where
   pub row_classes : (k : ℕ) → k ≤ size → take k (drop 6 (row_with size tf t pf p n m class pseudo)) ≡ spread class 0 k
@@ -55,7 +56,7 @@ module _ (size tf t pf p n m : ℕ) (class pseudo : ℕ → ℕ) where
   row_pseudos k h = ap (take k) (sym (drop-drop size 6 _) ∙ drop_at (spread class 0 size) (spread pseudo 0 size) size (length_spread class 0 size)) ∙ take_spread pseudo 0 k size h
 
 -- what a row says is what was written
-pub row_tags : (size n m : ℕ) (t p : Option ℕ) (class pseudo : ℕ → ℕ) → n ≤ size → m ≤ size
+pub row_tags : (size n m : ℕ) (t p : maybe.Option ℕ) (class pseudo : ℕ → ℕ) → n ≤ size → m ≤ size
     → row_at size (row_of size t p n m class pseudo) 0 ≡ record { type = t; part = p; classes = spread class 0 n; pseudos = spread pseudo 0 m }
 unfolding row_at
 row_tags size n m t p class pseudo h g =
@@ -66,6 +67,6 @@ unfolding inputs_tags
 inputs_row_lem x h g = row_tags 16 x.class_count x.pseudo_count (type_of x.type_tag) (part_of x.part_tag) (class_number x.classes) (pseudo_number x.pseudos) h g
 
 -- a row read back, word by word
-pub inputs_read : (row w : List ℕ) (t : TypeChoice) (p : PartChoice) (x : SelectorInputs)
+pub inputs_read : (row w : List ℕ) (t : Option TypeTag) (p : Option PartTag) (x : SelectorInputs)
     → w ≡ spread (λ k. get_or row k 0) 0 38 → t ≡ row_type w → p ≡ row_part w → x ≡ inputs_with t p w → x ≡ inputs_from row
 inputs_read row w t p x e f g h = h ∙ rw (f, g, e)

@@ -1,12 +1,12 @@
 -- Subjects by value, with typed numbers, and the rows that they are written to and read from: 01, "Subjects and steps".
 -- Assumes nothing.
-use Rattle.std.specs.Prelude.{◌≡◌, refl, Bool, ◌||◌, List, [], ◌∷◌, ◌++◌, ℕ, get_or, replicate, ltb}
-use Rattle.std.proofs.Math.Option.{Option, none, some}
+use Rattle.std.specs.Prelude.{◌≡◌, refl, Bool, ◌||◌, List, [], ◌∷◌, ◌++◌, ℕ, get_or, replicate, ltb, Option, Some, None}
+use Rattle.std.proofs.Math.Option as maybe
 use Rattle.theory.specs.Lists.{spread}
 use Rattle.typed.specs.declared.ClassId.{ClassId}
 use Rattle.typed.specs.declared.PseudoClassId.{PseudoClassId}
-use Rattle.typed.specs.declared.TypeChoice.{TypeChoice}
-use Rattle.typed.specs.declared.PartChoice.{PartChoice}
+use Rattle.typed.specs.declared.TypeTag.{TypeTag}
+use Rattle.typed.specs.declared.PartTag.{PartTag}
 use Rattle.typed.specs.declared.SelectorInputs.{SelectorInputs}
 use Rattle.selector.specs.Tags.{Tags}
 use Rattle.selector.specs.Rows.{tag_of, tag_number}
@@ -14,13 +14,16 @@ use Rattle.selector.specs.Weighing.{is_set}
 
 -- ---- tags and ids as numbers
 
-abbrev pub type_of : TypeChoice → Option ℕ
-type_of TypeChoice.Unset = none
-type_of (TypeChoice.Set t) = some t.0
+-- the number in a tag that is set
+abbrev pub number_in : {A : Type 0} → (A → ℕ) → Option A → maybe.Option ℕ
+number_in value None = maybe.none
+number_in value (Some t) = maybe.some (value t)
 
-abbrev pub part_of : PartChoice → Option ℕ
-part_of PartChoice.Unset = none
-part_of (PartChoice.Set t) = some t.0
+abbrev pub type_of : Option TypeTag → maybe.Option ℕ
+type_of t = number_in (λ t. t.0) t
+
+abbrev pub part_of : Option PartTag → maybe.Option ℕ
+part_of t = number_in (λ t. t.0) t
 
 -- the number of id k
 abbrev pub class_number : List ClassId → ℕ → ℕ
@@ -30,7 +33,7 @@ abbrev pub pseudo_number : List PseudoClassId → ℕ → ℕ
 pseudo_number ids k = (get_or ids k (record { 0 = 0 })).0
 
 -- the first n classes and m pseudos
-abbrev pub tags_of : TypeChoice → PartChoice → List ClassId → ℕ → List PseudoClassId → ℕ → Tags
+abbrev pub tags_of : Option TypeTag → Option PartTag → List ClassId → ℕ → List PseudoClassId → ℕ → Tags
 tags_of t p classes n pseudos m = record {
   type = type_of t;
   part = part_of p;
@@ -50,7 +53,7 @@ no_classes size = replicate size (record { 0 = 0 })
 abbrev pub no_pseudos : ℕ → List PseudoClassId
 no_pseudos size = replicate size (record { 0 = 0 })
 
-abbrev pub inputs_of : TypeChoice → PartChoice → List ClassId → ℕ → List PseudoClassId → ℕ → SelectorInputs
+abbrev pub inputs_of : Option TypeTag → Option PartTag → List ClassId → ℕ → List PseudoClassId → ℕ → SelectorInputs
 inputs_of t p classes n pseudos m = record {
   type_tag = t;
   part_tag = p;
@@ -61,10 +64,10 @@ inputs_of t p classes n pseudos m = record {
 }
 
 -- a subject with tags alone; without those, "`SelectorInputs::EMPTY` is the subject without tags or identifiers."
-abbrev pub tagged : TypeChoice → PartChoice → SelectorInputs
+abbrev pub tagged : Option TypeTag → Option PartTag → SelectorInputs
 tagged t p = inputs_of t p (no_classes 16) 0 (no_pseudos 16) 0
 
-empty_has_nothing : inputs_tags (tagged TypeChoice.Unset PartChoice.Unset) ≡ record { type = none; part = none; classes = []; pseudos = [] }
+empty_has_nothing : inputs_tags (tagged None None) ≡ record { type = maybe.none; part = maybe.none; classes = []; pseudos = [] }
 unfolding inputs_tags
 empty_has_nothing = refl
 
@@ -75,20 +78,23 @@ abbrev pub row_with : ℕ → ℕ → ℕ → ℕ → ℕ → ℕ → ℕ → (�
 row_with size tf t pf p n m class pseudo = tf ∷ t ∷ pf ∷ p ∷ n ∷ m ∷ (spread class 0 size ++ spread pseudo 0 size)
 
 -- A tag that isn't set is written as 0 and 0
-abbrev pub row_of : ℕ → Option ℕ → Option ℕ → ℕ → ℕ → (ℕ → ℕ) → (ℕ → ℕ) → List ℕ
+abbrev pub row_of : ℕ → maybe.Option ℕ → maybe.Option ℕ → ℕ → ℕ → (ℕ → ℕ) → (ℕ → ℕ) → List ℕ
 row_of size t p = row_with size (is_set t) (tag_number t) (is_set p) (tag_number p)
 
 abbrev pub inputs_row : SelectorInputs → List ℕ
 inputs_row x =
     row_of 16 (type_of x.type_tag) (part_of x.part_tag) x.class_count x.pseudo_count (class_number x.classes) (pseudo_number x.pseudos)
 
-abbrev pub type_from : Option ℕ → TypeChoice
-type_from none = TypeChoice.Unset
-type_from (some n) = TypeChoice.Set (record { 0 = n })
+-- the tag with a number
+abbrev pub tag_from : {A : Type 0} → (ℕ → A) → maybe.Option ℕ → Option A
+tag_from made maybe.none = None
+tag_from made (maybe.some n) = Some (made n)
 
-abbrev pub part_from : Option ℕ → PartChoice
-part_from none = PartChoice.Unset
-part_from (some n) = PartChoice.Set (record { 0 = n })
+abbrev pub type_from : maybe.Option ℕ → Option TypeTag
+type_from n = tag_from (λ n. record { 0 = n }) n
+
+abbrev pub part_from : maybe.Option ℕ → Option PartTag
+part_from n = tag_from (λ n. record { 0 = n }) n
 
 -- the ids with the numbers of `size` words from `at` on
 abbrev pub classes_from : ℕ → List ℕ → ℕ → List ClassId
@@ -98,13 +104,13 @@ abbrev pub pseudos_from : ℕ → List ℕ → ℕ → List PseudoClassId
 pseudos_from size words at = spread (λ k. record { 0 = get_or words k 0 }) at size
 
 -- What a row's words say; a word past the end is 0
-abbrev pub inputs_with : TypeChoice → PartChoice → List ℕ → SelectorInputs
+abbrev pub inputs_with : Option TypeTag → Option PartTag → List ℕ → SelectorInputs
 inputs_with t p row = inputs_of t p (classes_from 16 row 6) (get_or row 4 0) (pseudos_from 16 row 22) (get_or row 5 0)
 
-abbrev pub row_type : List ℕ → TypeChoice
+abbrev pub row_type : List ℕ → Option TypeTag
 row_type row = type_from (tag_of (get_or row 0 0) (get_or row 1 0))
 
-abbrev pub row_part : List ℕ → PartChoice
+abbrev pub row_part : List ℕ → Option PartTag
 row_part row = part_from (tag_of (get_or row 2 0) (get_or row 3 0))
 
 abbrev pub inputs_from : List ℕ → SelectorInputs

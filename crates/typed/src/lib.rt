@@ -1,105 +1,115 @@
 // Subjects by value, with typed numbers, and the rows that they are written to and read from.
 #![tactic(auto)]
 
-ghost use Rattle.std.specs.Prelude.{◌≡◌, ℕ, drop, get_or};
+ghost use Rattle.std.specs.Prelude.{◌≡◌, refl, ℕ, drop, get_or, Some, None};
 ghost use Rattle.theory.specs.Lists.{spread};
 ghost use Rattle.selector.specs.Rows.{tag_of, tag_number};
 ghost use Rattle.selector.specs.Weighing.{is_set};
-ghost use Rattle.typed.specs.Typed.{type_of, part_of, class_number, pseudo_number, no_classes, inputs_of, tagged, row_with, inputs_row, type_from, part_from, inputs_with, inputs_from};
+ghost use Rattle.typed.specs.Typed.{number_in, tag_from, class_number, pseudo_number, no_classes, inputs_of, tagged, row_with, inputs_row, inputs_with, inputs_from};
 
 use lent::words::copy_into;
 
-#[derive(Clone, Copy)]
+// The kinds of tag: numbers that are kept apart.
+pub trait Tag: Copy {
+    ghost value: { Self → ℕ };
+
+    ghost made: { ℕ → Self };
+
+    fn number(self) -> u32
+        ensures { result ≡ value self };
+
+    fn tagged(number: u32) -> Self
+        ensures { result ≡ made number };
+
+    // Each tag is made of its own number, and of no other.
+    ghost kept: { (t : Self) → made (value t) ≡ t };
+
+    ghost given: { (n : ℕ) → value (made n) ≡ n };
+}
+
+#[derive(Clone, Copy, Debug, PartialEq, Eq, PartialOrd, Ord, Hash)]
 pub struct TypeTag(pub u32);
 
-#[derive(Clone, Copy)]
+#[derive(Clone, Copy, Debug, PartialEq, Eq, PartialOrd, Ord, Hash)]
 pub struct PartTag(pub u32);
 
-#[derive(Clone, Copy)]
+#[derive(Clone, Copy, Debug, PartialEq, Eq, PartialOrd, Ord, Hash)]
 pub struct ClassId(pub u32);
 
-#[derive(Clone, Copy)]
+#[derive(Clone, Copy, Debug, PartialEq, Eq, PartialOrd, Ord, Hash)]
 pub struct PseudoClassId(pub u32);
 
-// A type tag, or none.
-#[derive(Clone, Copy)]
-pub enum TypeChoice {
-    Unset,
-    Set(TypeTag),
-}
+impl Tag for TypeTag {
+    ghost value = { λ t. t.0 };
 
-// A part tag, or none.
-#[derive(Clone, Copy)]
-pub enum PartChoice {
-    Unset,
-    Set(PartTag),
-}
+    ghost made = { λ n. record { 0 = n } };
 
-impl TypeChoice {
-    // 1 where it is set.
-    pub fn flag(self) -> u32
-        ensures { result ≡ is_set (type_of self) }
-    {
-        match self {
-            TypeChoice::Unset => 0,
-            TypeChoice::Set(_) => 1,
-        }
+    ghost kept = { λ t. refl };
+
+    ghost given = { λ n. refl };
+
+    fn number(self) -> u32 {
+        self.0
     }
 
-    // 0 where it is not.
-    pub fn number(self) -> u32
-        ensures { result ≡ tag_number (type_of self) }
-    {
-        match self {
-            TypeChoice::Unset => 0,
-            TypeChoice::Set(t) => t.0,
-        }
-    }
-
-    pub fn from_words(flag: u32, tag: u32) -> Self
-        ensures { result ≡ type_from (tag_of flag tag) }
-    {
-        if flag == 0 {
-            return TypeChoice::Unset;
-        }
-        TypeChoice::Set(TypeTag(tag))
+    fn tagged(number: u32) -> TypeTag {
+        TypeTag(number)
     }
 }
 
-impl PartChoice {
-    pub fn flag(self) -> u32
-        ensures { result ≡ is_set (part_of self) }
-    {
-        match self {
-            PartChoice::Unset => 0,
-            PartChoice::Set(_) => 1,
-        }
+impl Tag for PartTag {
+    ghost value = { λ t. t.0 };
+
+    ghost made = { λ n. record { 0 = n } };
+
+    ghost kept = { λ t. refl };
+
+    ghost given = { λ n. refl };
+
+    fn number(self) -> u32 {
+        self.0
     }
 
-    pub fn number(self) -> u32
-        ensures { result ≡ tag_number (part_of self) }
-    {
-        match self {
-            PartChoice::Unset => 0,
-            PartChoice::Set(t) => t.0,
-        }
-    }
-
-    pub fn from_words(flag: u32, tag: u32) -> Self
-        ensures { result ≡ part_from (tag_of flag tag) }
-    {
-        if flag == 0 {
-            return PartChoice::Unset;
-        }
-        PartChoice::Set(PartTag(tag))
+    fn tagged(number: u32) -> PartTag {
+        PartTag(number)
     }
 }
 
-// The words from `at` on, a subject row's number of them.
-fn subject_words(words: &[u32], at: usize) -> [u32; 38]
-    ensures { result ≡ spread (λ (k : ℕ). get_or (drop at words.now) k 0) 0 38 }
+// 1 where a tag is set.
+pub fn tag_flag<T: Tag>(tag: Option<T>) -> u32
+    ensures { result ≡ is_set (number_in T.value tag) }
 {
-    let mut row = [0u32; 38];
+    match tag {
+        None => 0,
+        Some(_) => 1,
+    }
+}
+
+// A tag's number, 0 where none is set.
+pub fn tag_number<T: Tag>(tag: Option<T>) -> u32
+    ensures { result ≡ tag_number (number_in T.value tag) }
+{
+    match tag {
+        None => 0,
+        Some(t) => t.number(),
+    }
+}
+
+// The tag that a row's two words say.
+pub fn tag_from_words<T: Tag>(flag: u32, number: u32) -> Option<T>
+    ensures { result ≡ tag_from T.made (tag_of flag number) }
+{
+    if flag == 0 {
+        return None;
+    }
+    Some(T::tagged(number))
+}
+
+// The words from `at` on, a row's number of them.
+pub fn row_words<const N: usize>(words: &[u32], at: usize) -> [u32; N]
+    ensures { result ≡ spread (λ (k : ℕ). get_or (drop at words.now) k 0) 0 N }
+{
+    let mut row = [0u32; N];
     copy_into(&mut row, 0, lent::held::part(words, at, words.len()));
     row
 }
@@ -107,8 +117,8 @@ fn subject_words(words: &[u32], at: usize) -> [u32; 38]
 // A subject. Its ids are the first of each array, as many as the count says.
 #[derive(Clone, Copy)]
 pub struct SelectorInputs {
-    pub type_tag: TypeChoice,
-    pub part_tag: PartChoice,
+    pub type_tag: Option<TypeTag>,
+    pub part_tag: Option<PartTag>,
     pub classes: [ClassId; 16],
     pub class_count: u32,
     pub pseudos: [PseudoClassId; 16],
@@ -118,8 +128,8 @@ pub struct SelectorInputs {
 impl SelectorInputs {
     // The subject without tags or identifiers.
     pub const EMPTY: SelectorInputs = SelectorInputs {
-        type_tag: TypeChoice::Unset,
-        part_tag: PartChoice::Unset,
+        type_tag: None,
+        part_tag: None,
         classes: [ClassId(0); 16],
         class_count: 0,
         pseudos: [PseudoClassId(0); 16],
@@ -128,51 +138,51 @@ impl SelectorInputs {
 
     // The same as a call: a contract can't name the constant.
     pub fn empty() -> Self
-        ensures { result ≡ tagged TypeChoice.Unset PartChoice.Unset }
+        ensures { result ≡ tagged None None }
     {
         Self::EMPTY
     }
 
     pub fn typed(type_tag: TypeTag) -> Self
-        ensures { result ≡ tagged (TypeChoice.Set type_tag) PartChoice.Unset }
+        ensures { result ≡ tagged (Some type_tag) None }
     {
         Self {
-            type_tag: TypeChoice::Set(type_tag),
+            type_tag: Some(type_tag),
             ..Self::EMPTY
         }
     }
 
     pub fn part(part_tag: PartTag) -> Self
-        ensures { result ≡ tagged TypeChoice.Unset (PartChoice.Set part_tag) }
+        ensures { result ≡ tagged None (Some part_tag) }
     {
         Self {
-            part_tag: PartChoice::Set(part_tag),
+            part_tag: Some(part_tag),
             ..Self::EMPTY
         }
     }
 
     pub fn typed_part(type_tag: TypeTag, part_tag: PartTag) -> Self
-        ensures { result ≡ tagged (TypeChoice.Set type_tag) (PartChoice.Set part_tag) }
+        ensures { result ≡ tagged (Some type_tag) (Some part_tag) }
     {
         Self {
-            type_tag: TypeChoice::Set(type_tag),
-            part_tag: PartChoice::Set(part_tag),
+            type_tag: Some(type_tag),
+            part_tag: Some(part_tag),
             ..Self::EMPTY
         }
     }
 
     pub fn new(
-        type_tag: TypeChoice,
+        type_tag: Option<TypeTag>,
         classes: [ClassId; 16],
         class_count: u32,
         pseudos: [PseudoClassId; 16],
         pseudo_count: u32,
     ) -> Self
-        ensures { result ≡ inputs_of type_tag PartChoice.Unset classes class_count pseudos pseudo_count }
+        ensures { result ≡ inputs_of type_tag None classes class_count pseudos pseudo_count }
     {
         Self::with_part(
             type_tag,
-            PartChoice::Unset,
+            None,
             classes,
             class_count,
             pseudos,
@@ -185,10 +195,10 @@ impl SelectorInputs {
         pseudos: [PseudoClassId; 16],
         pseudo_count: u32,
     ) -> Self
-        ensures { result ≡ inputs_of (TypeChoice.Set type_tag) PartChoice.Unset (no_classes 16) 0 pseudos pseudo_count }
+        ensures { result ≡ inputs_of (Some type_tag) None (no_classes 16) 0 pseudos pseudo_count }
     {
         Self {
-            type_tag: TypeChoice::Set(type_tag),
+            type_tag: Some(type_tag),
             pseudos,
             pseudo_count,
             ..Self::EMPTY
@@ -196,8 +206,8 @@ impl SelectorInputs {
     }
 
     pub fn with_part(
-        type_tag: TypeChoice,
-        part_tag: PartChoice,
+        type_tag: Option<TypeTag>,
+        part_tag: Option<PartTag>,
         classes: [ClassId; 16],
         class_count: u32,
         pseudos: [PseudoClassId; 16],
@@ -221,7 +231,7 @@ impl SelectorInputs {
     {
         let t = self.type_tag;
         let p = self.part_tag;
-        self.row_with(t.flag(), t.number(), p.flag(), p.number())
+        self.row_with(tag_flag(t), tag_number(t), tag_flag(p), tag_number(p))
     }
 
     // The same after the first four words.
@@ -276,16 +286,16 @@ impl SelectorInputs {
     pub fn from_row(words: &[u32], at: usize) -> Self
         ensures { result ≡ inputs_from (drop at words.now) }
     {
-        let w = subject_words(words, at);
+        let w: [u32; 38] = row_words(words, at);
         Self::from_words(
-            TypeChoice::from_words(w[0], w[1]),
-            PartChoice::from_words(w[2], w[3]),
+            tag_from_words(w[0], w[1]),
+            tag_from_words(w[2], w[3]),
             w,
         )
     }
 
     // The same after the first four words.
-    pub fn from_words(type_tag: TypeChoice, part_tag: PartChoice, w: [u32; 38]) -> Self
+    pub fn from_words(type_tag: Option<TypeTag>, part_tag: Option<PartTag>, w: [u32; 38]) -> Self
         ensures { result ≡ inputs_with type_tag part_tag w }
     {
         let classes = [

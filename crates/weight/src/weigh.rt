@@ -3,9 +3,9 @@ ghost use Rattle.std.specs.Prelude.{◌≡◌};
 ghost use Rattle.selector.specs.Weighing.{weighing_told, weighing_of};
 
 use crate::held::sum;
-use checks::held::selector_verdict;
+use checks::held::check_selector;
 use lent::Refusal;
-use selector::{Specificity, Weighing};
+use selector::Specificity;
 
 // Ranking 0: pseudos, classes, parts, types.
 pub fn specificity(
@@ -13,14 +13,11 @@ pub fn specificity(
     step_count: usize,
     combinators: &[u32],
     combinator_count: usize,
-) -> Weighing
+) -> Result<Specificity, Refusal>
     ensures { weighing_told result ≡ weighing_of 0 steps.now step_count combinators.now combinator_count }
 {
-    let v = selector_verdict(steps, step_count, combinators, combinator_count);
-    if v != 0 {
-        return Weighing::Refused(Refusal::of(v));
-    }
-    Weighing::Weighs(sum(steps, step_count))
+    check_selector(steps, step_count, combinators, combinator_count)?;
+    Ok(sum(steps, step_count))
 }
 
 // Ranking 1: Level 3's counts, classes and pseudos, then types and parts.
@@ -29,13 +26,10 @@ pub fn level3_specificity(
     step_count: usize,
     combinators: &[u32],
     combinator_count: usize,
-) -> Weighing
+) -> Result<Specificity, Refusal>
     ensures { weighing_told result ≡ weighing_of 1 steps.now step_count combinators.now combinator_count }
 {
-    let v = selector_verdict(steps, step_count, combinators, combinator_count);
-    if v != 0 {
-        return Weighing::Refused(Refusal::of(v));
-    }
+    check_selector(steps, step_count, combinators, combinator_count)?;
     let s = sum(steps, step_count);
-    Weighing::Weighs(Specificity(s.1 + s.0, s.3 + s.2, 0, 0))
+    Ok(Specificity(s.1 + s.0, s.3 + s.2, 0, 0))
 }

@@ -5,8 +5,8 @@ use Rattle.diagnosing.proofs.diagnose_path.Goals as goal
 
 -- `diagnosing::diagnose_path` meets its contract. Assumes nothing.
 
-pub returns-then-v-ne0 : goal.returns-then-v-ne0
-returns-then-v-ne0 c = search (answers, rules)
+pub returns-in_err-check_path : goal.returns-in_err-check_path
+returns-in_err-check_path c = search (answers, rules)
 
 pub returns-then-path_count-eq0 : goal.returns-then-path_count-eq0
 returns-then-path_count-eq0 c = search (answers, rules)
@@ -15,7 +15,7 @@ pub returns-then-step_count-eq0 : goal.returns-then-step_count-eq0
 returns-then-step_count-eq0 c = search (answers, rules)
 
 pub diagnose_path_from-requires : goal.diagnose_path_from-requires
-diagnose_path_from-requires c = let a = accepted _ _ _ _ _ _ _ c.path_verdict-v.ensures c.if-v-ne0.false in search rules
+diagnose_path_from-requires c = let a = accepted _ _ _ _ _ _ c.in_ok-check_path.ensures in search rules
 
 pub returns : goal.returns
 returns c = search (answers, rules)

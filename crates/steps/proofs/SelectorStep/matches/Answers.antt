@@ -1,7 +1,7 @@
 use mathlib.Core.Path.{sym, ◌∙◌}
 use borrow.Author.Rules.{rules}
 use borrow.Author.Tests.{not-true, not-false}
-use Rattle.steps.proofs.Answers.{step_over, subject_over, subject_unsorted, step_yes, step_no}
+use Rattle.steps.proofs.Answers.{step_over, subject_over, subject_unsorted, step_answered}
 use Rattle.steps.proofs.SelectorStep.matches.Goals as goal
 
 pub returns-then-not-row_fits : goal.returns-then-not-row_fits
@@ -16,8 +16,5 @@ returns-then-not-row_ascends c = search (subject_unsorted, not-true, not-false, 
 pub matches_row-requires : goal.matches_row-requires
 matches_row-requires c = record { s_bound = search rules; x_value = sym c.row_ascends.ensures ∙ c.if-not-row_ascends.false }
 
-pub returns-then-matches_row : goal.returns-then-matches_row
-returns-then-matches_row c = search (step_yes, not-false, rules)
-
 pub returns : goal.returns
-returns c = search (step_no, not-false, rules)
+returns c = search (step_answered, not-false, rules)
