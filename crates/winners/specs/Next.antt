@@ -1,7 +1,6 @@
 -- One more source after those seen. For contracts within and cores alone. Assumes nothing.
-use Rattle.std.specs.Prelude.{List, [], ◌∷◌, ◌++◌, ℕ}
+use Rattle.std.specs.Prelude.{List, [], ◌∷◌, ◌++◌, ℕ, Option}
 use Rattle.theory.specs.Cascade.{winner}
-use Rattle.std.proofs.Math.Option.{Option}
 use Rattle.winners.specs.declared.Best.{Best}
 use Rattle.winners.specs.Winners.{Place, key_at, holds_at}
 use Rattle.winners.specs.Best.{Stands}

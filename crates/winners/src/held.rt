@@ -5,11 +5,11 @@ ghost use Rattle.theory.specs.Lists.{spread, ascends, member};
 ghost use Rattle.theory.specs.Cascade.{winner, same_key};
 ghost use Rattle.lent.specs.Pool.{ends_in, list_at};
 ghost use Rattle.sheet.specs.Layout.{rules_in, styles_in};
-ghost use Rattle.sheet.specs.Sheets.{between, entry_at};
+ghost use Rattle.sheet.specs.Sheets.{between, entry_at, key_of};
 ghost use Rattle.sheet.specs.Shape.{sheet_shape};
 ghost use Rattle.style.specs.Entries.{look_up};
 ghost use Rattle.keys.specs.Keys.{key_from};
-ghost use Rattle.winners.specs.Winners.{style, rule, key_at, holds_at, winner_of, entry_of, AreRules};
+ghost use Rattle.winners.specs.Winners.{style, source_at, key_at, holds_at, winner_of, entry_of, AreRules};
 ghost use Rattle.winners.specs.Next.{Next};
 ghost use Rattle.winners.specs.Best.{place_of, place_in, key_in, Stands, beats_key, is_place, Finds};
 
@@ -50,7 +50,7 @@ fn holds(sheet: &[u32], source: Source, property: u32) -> bool
 
 fn key(sheet: &[u32], ranking: u32, source: Source) -> CascadeEntryKey
     requires { (sheet_shape sheet.now ≡ true) × (is_place sheet.now (some (place_of source)) ≡ true) × (ranking ≤ 1) }
-    ensures { key_from result ≡ key_at sheet.now ranking (place_of source) }
+    ensures { key_from result ≡ key_of ranking (source_at sheet.now (place_of source)) }
 {
     match source {
         Source::Style(d) => style_key(sheet, d),
