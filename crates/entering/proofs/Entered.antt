@@ -2,7 +2,7 @@
 use mathlib.Core.Path.{◌≡◌, refl, sym, ap, ◌∙◌}
 use mathlib.Core.Bool.{Bool, true, false, cond, ◌&&◌}
 use mathlib.Core.List.{List}
-use Prim.Native.Nat.{ℕ, suc, ◌-◌, ◌≤◌, ◌<◌}
+use Prim.Native.Nat.{ℕ, zero, suc, ◌-◌, ◌≤◌, ◌<◌}
 use native.Mathlib.Omega.{arith}
 use lib.ListN.{length, take}
 use lib.Dec.{leb}
@@ -13,7 +13,7 @@ use Rattle.theory.proofs.Lists.{and_left, and_right}
 use Rattle.selector.specs.Tags.{Tags}
 use Rattle.selector.specs.Rows.{row_at}
 use Rattle.sheet.specs.Shape.{sheet_shape}
-use Rattle.table.specs.Tables.{table, selectors_of, states_in, cursors_at, state_at, child_at}
+use Rattle.table.specs.Tables.{table, selectors_of, states_in, cursors_at, state_at, child_at, linked}
 use Rattle.table.specs.Shape.{root_cursors, table_shape}
 use Rattle.table.specs.Entering.{cached, next_state, number_in, state_lacks_room, lacks_room, child_of, entered, kept}
 use Rattle.table.proofs.Same.{same_is}
@@ -23,8 +23,7 @@ use Rattle.advance.proofs.Range.{room_few, room_many}
 use Rattle.advance.proofs.Advanced.{advanced_state}
 use Rattle.finding.specs.States.{state}
 use Rattle.settle.specs.Settling.{Settles}
-use Rattle.settle.specs.declared.Settled.{Settled}
-use Rattle.settle.specs.declared.Settled.TheVariants.{At, NoRoom}
+use Rattle.std.specs.Prelude.{Option, Some, None}
 use Rattle.entering.specs.Answers.{Enters, Parents}
 
 -- ---- what the shape brings
@@ -63,7 +62,7 @@ room_large w x parent top next listed s e f = room_many w x parent top next list
 -- ---- the next state settled: the lists are those that were worked out
 
 pub settled_next : {w parent top : List ℕ} {x : Tags} {next listed next' listed' : List ℕ} {n k : ℕ} → Advanced w parent top x next listed n k next' listed'
-    → (h s c m h' s' c' m' : List ℕ) (p : ℕ) (r : Settled)
+    → (h s c m h' s' c' m' : List ℕ) (p : ℕ) (r : Option ℕ)
     → Parents w s c p
     → parent ≡ cursors_at s c p
     → top ≡ cursors_at s c 0
@@ -77,45 +76,56 @@ settled_next {w} a h s c m h' s' c' m' p r q e f u t =
 
 -- ---- what is told where a state stands
 
-abbrev number_told : Settled → ℕ
-number_told (At k) = suc k
-number_told NoRoom = 0
+abbrev number_told : Option ℕ → ℕ
+number_told (Some k) = suc k
+number_told None = 0
 
-pub told_at : (b : Bool) (n k : ℕ) → At k ≡ cond b NoRoom (At n) → (b ≡ false) × (k ≡ n)
+pub told_at : (b : Bool) (n k : ℕ) → Some k ≡ cond b None (Some n) → (b ≡ false) × (k ≡ n)
 told_at true n k e = let q : suc k ≡ 0 = ap number_told e in absurd (omega arith)
 told_at false n k e = let q : suc k ≡ suc n = ap number_told e in (refl, omega arith)
 
-pub told_none : (b : Bool) (n : ℕ) → NoRoom ≡ cond b NoRoom (At n) → b ≡ true
+pub told_none : (b : Bool) (n : ℕ) → None ≡ cond b None (Some n) → b ≡ true
 told_none true n e = refl
 told_none false n e = let q : 0 ≡ suc n = ap number_told e in absurd (omega arith)
 
 -- ---- the ways out
 
-module _ (w h s c m tr row : List ℕ) (p link : ℕ) (e : link ≡ cached h s tr p (row_at 16 row 0)) where
-  -- a cached transition
-  pub entered_cached : (link ≡ 0 → ⊥) → (child : ℕ) → child ≡ child_at tr (link - 1) → Enters w (table h s c m tr) p row (At child) (table h s c m tr)
-  unfolding lacks_room child_of entered
-  entered_cached n child f = record { answer = rw (← e, ne_eqb link 0 n, f); memory = rw (← e, ne_eqb link 0 n) }
+-- the link that leads there
+linked_some : (l k : ℕ) → Some k ≡ linked l → l ≡ suc k
+unfolding linked
+linked_some zero k e = let q : suc k ≡ 0 = ap number_told e in absurd (omega arith)
+linked_some (suc l) k e = let q : suc k ≡ suc l = ap number_told e in sym q
 
-  module _ (z : link ≡ 0) (r : Settled) (h' s' c' m' : List ℕ)
+linked_none : (l : ℕ) → None ≡ linked l → l ≡ 0
+unfolding linked
+linked_none zero e = refl
+linked_none (suc l) e = let q : 0 ≡ suc l = ap number_told e in absurd (omega arith)
+
+module _ (w h s c m tr row : List ℕ) (p : ℕ) where
+  -- a cached transition
+  pub entered_cached : (k child : ℕ) → Some k ≡ linked (cached h s tr p (row_at 16 row 0)) → child ≡ child_at tr k → Enters w (table h s c m tr) p row (Some child) (table h s c m tr)
+  unfolding lacks_room child_of entered
+  entered_cached k child e f = let l = linked_some _ k e in record { answer = rw (l, f); memory = rw l }
+
+  module _ (e : None ≡ linked (cached h s tr p (row_at 16 row 0))) (r : Option ℕ) (h' s' c' m' : List ℕ)
       (u : (t : List ℕ) → Settles (table h s c m t) (next_state w (table h s c m t) p (row_at 16 row 0)) r (table h' s' c' m' t)) where
     lacks : lacks_room w (table h s c m tr) p row ≡ state_lacks_room (table h s c m tr) (next_state w (table h s c m tr) p (row_at 16 row 0))
     unfolding lacks_room
-    lacks = rw (← e, z)
+    lacks = rw (linked_none _ e)
 
     -- a state held or put, and the transition kept;
-    pub entered_new : (child : ℕ) → r ≡ At child → (h'' s'' t'' : List ℕ) → ((c m : List ℕ) → table h'' s'' c m t'' ≡ kept (table h' s' c m tr) p child row)
-        → Enters w (table h s c m tr) p row (At child) (table h'' s'' c' m' t'')
+    pub entered_new : (child : ℕ) → r ≡ Some child → (h'' s'' t'' : List ℕ) → ((c m : List ℕ) → table h'' s'' c m t'' ≡ kept (table h' s' c m tr) p child row)
+        → Enters w (table h s c m tr) p row (Some child) (table h'' s'' c' m' t'')
     unfolding child_of entered
     entered_new child f h'' s'' t'' k =
         let t = table h s c m tr in
         let x = next_state w t p (row_at 16 row 0) in
         let (o, q) = told_at (state_lacks_room t x) (number_in t x) child (sym f ∙ (u tr).answer) in
         let held = rw o at (u tr).memory in
-        record { answer = rw (lacks, o, ← e, z, q); memory = rw (lacks, o, ← e, z, ← held, ← q) (k c' m') }
+        record { answer = rw (lacks, o, linked_none _ e, q); memory = rw (lacks, o, linked_none _ e, ← held, ← q) (k c' m') }
 
     -- or none, and nothing written
-    pub entered_none : r ≡ NoRoom → Enters w (table h s c m tr) p row NoRoom (table h' s' c' m' tr)
+    pub entered_none : r ≡ None → Enters w (table h s c m tr) p row None (table h' s' c' m' tr)
     entered_none f =
         let t = table h s c m tr in
         let x = next_state w t p (row_at 16 row 0) in

@@ -12,7 +12,7 @@ use borrow.Author.Tests.{lt-ltb, le-ltb, le-leb, lt-leb, eq-eqb, ne_eqb, ltb-tru
 use Rattle.theory.proofs.Lists.{le_or_lt, and_right, or_second}
 use Rattle.lent.specs.Pool.{start_of, list_at}
 use Rattle.std.specs.Prelude.{Ok, Err}
-use Rattle.lent.specs.Refusals.{number_of, first_of}
+use Rattle.lent.specs.Refusals.{number_of, told, answered, first_of}
 use Rattle.lent.specs.declared.Refusal.{Refusal}
 use Rattle.lent.proofs.Refusals.{first_clear, refusal_number, refused_first}
 use Rattle.sheet.specs.Shape.{sheet_shape}
@@ -59,9 +59,9 @@ module _ (w : List ℕ) (t : Table) (number stamp : ℕ) where
         let f = ne_eqb (number_of x) 0 (refusal_number x) in
         record { numbers = rw (← e, f) n; block = k; place = rw (← e, f) l }
 
-    pub part_refused : Part w t number stamp (Err x)
+    pub part_refused : (l : List ℕ) → told x ≡ answered (state_verdict w t number stamp) l
     unfolding state_verdict
-    part_refused = record { answer = refused_first _ x _ refl e }
+    part_refused l = refused_first _ x l refl e
 
   module _ (e : 0 ≡ state_verdict w t number stamp) where
     pub part_found : (from to : ℕ) → from ≡ start_of (matched_ends t.states) number → to ≡ matched_ends t.states number → Part w t number stamp (Ok (from, to))

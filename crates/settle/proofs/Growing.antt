@@ -11,7 +11,7 @@ use Rattle.lent.specs.Pool.{address_of}
 use Rattle.table.specs.Tables.{table, states_in, cursors_in, matched_in}
 use Rattle.table.specs.Entering.{room_for, grown, number_for, holding}
 use Rattle.finding.specs.States.{state}
-use Rattle.settle.specs.declared.Settled.TheVariants.{At, NoRoom}
+use Rattle.std.specs.Prelude.{Some, None}
 use Rattle.settle.specs.Settling.{Settles}
 
 -- ---- a new state
@@ -36,17 +36,17 @@ grown_is h s c m nc nm h' s' c' m' n kc km wc wm at en ec em ewc pc ewm pm ea ps
 -- ---- settling
 
 module _ (h s c m nc nm : List ℕ) (n k : ℕ) (en : n ≡ states_in h) (ek : k ≡ number_for s c m n (state nc nm)) where
-  pub settle_held : k < n → (t : List ℕ) → Settles (table h s c m t) (state nc nm) (At k) (table h s c m t)
+  pub settle_held : k < n → (t : List ℕ) → Settles (table h s c m t) (state nc nm) (Some k) (table h s c m t)
   unfolding holding
   settle_held l t = record { answer = rw (← en, ← ek, lt-ltb k n l); memory = rw (← en, ← ek, lt-ltb k n l) }
 
   module _ (new : n ≤ k) (b : Bool) (eb : b ≡ room_for h (length s) (length c) (length m) (state nc nm)) where
-    pub settle_full : not b ≡ true → (t : List ℕ) → Settles (table h s c m t) (state nc nm) NoRoom (table h s c m t)
+    pub settle_full : not b ≡ true → (t : List ℕ) → Settles (table h s c m t) (state nc nm) None (table h s c m t)
     settle_full e t = record { answer = rw (← en, ← ek, le-ltb k n new, ← eb, e); memory = rw (← en, ← ek, le-ltb k n new, ← eb, e) }
 
     pub settle_new : {h' s' c' m' : List ℕ}
         → not b ≡ false
         → ((t : List ℕ) → table h' s' c' m' t ≡ grown (table h s c m t) (state nc nm))
-        → (t : List ℕ) → Settles (table h s c m t) (state nc nm) (At k) (table h' s' c' m' t)
+        → (t : List ℕ) → Settles (table h s c m t) (state nc nm) (Some k) (table h' s' c' m' t)
     unfolding holding
     settle_new e g t = record { answer = rw (← en, ← ek, le-ltb k n new, ← eb, e); memory = rw (← en, ← ek, le-ltb k n new, ← eb, e) (g t) }

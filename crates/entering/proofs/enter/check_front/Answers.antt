@@ -1,9 +1,9 @@
 use borrow.Author.Rules.{rules}
 use Rattle.entering.proofs.Fronts.{fronts}
-use Rattle.entering.proofs.enter.front_verdict.Goals as goal
+use Rattle.entering.proofs.enter.check_front.Goals as goal
 
-pub returns-then-v-ne0 : goal.returns-then-v-ne0
-returns-then-v-ne0 c = search (fronts, rules)
+pub returns-in_err-check_state : goal.returns-then-v-ne0
+returns-in_err-check_state c = search (fronts, rules)
 
 pub returns-then-not-row_fits : goal.returns-then-not-row_fits
 returns-then-not-row_fits c = search (fronts, rules)
