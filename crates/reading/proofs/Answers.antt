@@ -1,107 +1,110 @@
 -- What the calls that read a sheet answer, by each way through the code. Assumes nothing.
 use mathlib.Core.Path.{◌≡◌, refl, sym, ap, ◌∙◌}
-use mathlib.Core.Bool.{Bool, true, false, not}
+use mathlib.Core.Bool.{Bool, true, false, not, cond}
 use mathlib.Core.Option.{some}
 use mathlib.Core.List.{List, [], ◌∷◌}
-use Prim.Native.Nat.{ℕ, suc, ◌+◌, ◌-◌, ◌*◌, ◌≤◌, ◌<◌}
+use Prim.Native.Nat.{ℕ, zero, suc, ◌+◌, ◌-◌, ◌*◌, ◌≤◌, ◌<◌}
 use native.Mathlib.Numerals.{add-one}
 use native.Mathlib.Omega.{arith}
 use lib.ListN.{length, get_or, get_elem?, drop}
-use lib.Dec.{ltb}
+use lib.Dec.{ltb, eqb}
 use mir.Syntax.{w16, w32}
 use mir.Val.{Fits}
-use borrow.Author.Tests.{lt-ltb, le-ltb, ne_eqb, ltb-true, not-true, not-false}
+use borrow.Author.Tests.{lt-ltb, le-ltb, ne_eqb, eqb-true, eqb-false, ltb-true, not-true, not-false}
+use Rattle.theory.specs.Lists.{spread}
 use Rattle.theory.specs.Weight.{weight_of}
 use Rattle.theory.proofs.Spreads.{length_spread}
 use Rattle.lent.specs.Pool.{ends_in, start_of}
-use Rattle.lent.specs.Refusals.{told, refusal_of, check, first_of, answered}
+use Rattle.lent.specs.Refusals.{number_of, told, check, first_of, one_if, answered}
 use Rattle.lent.specs.declared.Refusal.{Refusal}
-use Rattle.lent.specs.declared.Refusal.TheVariants.{BrokenShape, CodeOutOfRange}
-use Rattle.lent.proofs.Refusals.{first_stop, first_go, first_clear}
+use Rattle.lent.specs.declared.Refusal.TheVariants.{CodeOutOfRange}
+use Rattle.lent.proofs.Refusals.{first_stop, first_go, first_clear, refusal_number, refused_first}
+use Rattle.std.specs.Prelude.{Ok, Err, Some, None}
+use Rattle.selector.specs.declared.Combinator.{Combinator}
+use Rattle.selector.specs.declared.Combinator.TheVariants.{Child, Descendant}
+use Rattle.selector.specs.Rows.{comb_of, combinator_of}
 use Rattle.selector.specs.Weighing.{weight_told}
 use Rattle.selector.specs.declared.Specificity.{Specificity}
-use Rattle.typed.specs.declared.TypeChoice.{TypeChoice}
-use Rattle.typed.specs.declared.PartChoice.{PartChoice}
 use Rattle.steps.specs.declared.SelectorStep.{SelectorStep}
 use Rattle.steps.specs.Steps.{asking, step_from}
 use Rattle.sheet.specs.Layout
 use Rattle.sheet.specs.Layout.{rules_in, steps_in, entries_in, styles_in, style_entries_in, step_place}
-use Rattle.sheet.specs.Sheets.{part_at, entry_at, rule_at, style_at, sheet_of, counts_for, weight_for, rule_step_ends, rule_entry_ends, style_entry_ends}
+use Rattle.sheet.specs.Sheets.{is_nil, part_at, entry_at, rule_at, style_at, sheet_of, counts_for, weight_for, rule_step_ends, rule_entry_ends, style_entry_ends}
 use Rattle.sheet.specs.Shape.{sheet_shape}
 use Rattle.sheet.proofs.ReadLaws.{steps_few, entries_few, rule_steps_end, rule_entries_end, style_entries_end, rule_property_few, style_property_few, length_between, between_at, between_past}
 use Rattle.weighed.specs.Weighing.{weight_from}
-use Rattle.reading.specs.declared.StepVerdict.TheVariants as step
-use Rattle.reading.specs.declared.StepAnswer.{StepAnswer}
-use Rattle.reading.specs.Reading.{sheet_verdict, rule_verdict, weight_verdict, emptiness_of, rule_numbers, style_numbers, entry_numbers, combinator_numbers, style_there, StepRead}
+use Rattle.reading.specs.Reading.{sheet_verdict, rule_verdict, weight_verdict, emptiness_of, rule_numbers, style_numbers, entry_numbers, comb_numbers, combinator_number, combinator_numbers, style_there, StepRead}
 
 -- ---- refusals
 
--- a number of 01's table that is 11 or 9 tells itself alone
-told_two : (a b : Bool) (v : ℕ) → v ≡ first_of (check 11 a ∷ check 9 b ∷ []) → (v ≡ 0 → ⊥) → told (refusal_of v) ≡ v ∷ []
-unfolding first_of refusal_of
-told_two true b v e h = rw e
-told_two false true v e h = rw e
-told_two false false v e h = absurd (h e)
+module _ (w : List ℕ) where
+  -- the test of a sheet
+  module _ (b : Bool) (e : b ≡ sheet_shape w) where
+    pub verdict_broken : b ≡ false → 11 ≡ sheet_verdict w
+    unfolding sheet_verdict first_of
+    verdict_broken t = rw (← e, t)
 
-module _ (w : List ℕ) (b : Bool) (e : b ≡ sheet_shape w) where
-  verdict_none : b ≡ true → sheet_verdict w ≡ 0
-  unfolding sheet_verdict first_of
-  verdict_none t = rw (← e, t)
+    pub verdict_fine : b ≡ true → 0 ≡ sheet_verdict w
+    unfolding sheet_verdict first_of
+    verdict_fine t = rw (← e, t)
 
-  -- a sheet alone
-  pub sheet_refused : b ≡ false → (l : List ℕ) → told BrokenShape ≡ answered (sheet_verdict w) l
-  unfolding sheet_verdict first_of
-  sheet_refused t l = rw (← e, t)
+  -- what it refuses
+  module _ (x : Refusal) (f : number_of x ≡ sheet_verdict w) where
+    pub sheet_refused : (l : List ℕ) → told x ≡ answered (sheet_verdict w) l
+    unfolding sheet_verdict
+    sheet_refused l = refused_first _ x l refl f
 
-  pub sheet_told : b ≡ true → (l m : List ℕ) → l ≡ m → l ≡ answered (sheet_verdict w) m
-  sheet_told t l m h = rw (verdict_none t) h
+    pub empty_refused : told x ≡ emptiness_of w
+    unfolding emptiness_of
+    empty_refused = sheet_refused _
 
-  pub count_told : b ≡ true → (n k : ℕ) → n ≡ k → 0 ∷ n ∷ [] ≡ answered (sheet_verdict w) (0 ∷ k ∷ [])
-  count_told t n k h = rw (verdict_none t, h)
+    pub style_refused : (d : ℕ) (l : List ℕ) → told x ≡ style_there w d l
+    style_refused d l = sheet_refused _
 
-  -- neither styles nor rules
-  pub empty_refused : b ≡ false → told BrokenShape ≡ emptiness_of w
-  unfolding emptiness_of
-  empty_refused t = sheet_refused t _
+    pub rule_broken : (r : ℕ) → number_of x ≡ rule_verdict w r
+    unfolding sheet_verdict rule_verdict
+    rule_broken r = first_stop (check 11 (not (sheet_shape w)) ∷ []) _ (number_of x) f (refusal_number x)
 
-  pub empty_styles : b ≡ true → (n : ℕ) → n ≡ styles_in w → (n ≡ 0 → ⊥) → 0 ∷ 0 ∷ [] ≡ emptiness_of w
-  unfolding emptiness_of sheet_of
-  empty_styles t n h k = let z : styles_in w ≡ suc (styles_in w - 1) = omega arith in rw (verdict_none t, z)
+  -- and what it lets through
+  module _ (z : 0 ≡ sheet_verdict w) where
+    sheet_there : sheet_shape w ≡ true
+    unfolding sheet_verdict
+    sheet_there = not-false _ (first_clear 11 (not (sheet_shape w)) [] (omega arith) (sym z)).0
 
-  module _ (t : b ≡ true) (n : ℕ) (h : n ≡ styles_in w) (k : n ≡ 0) (m : ℕ) (g : m ≡ rules_in w) where
-    pub empty_rules : (m ≡ 0 → ⊥) → 0 ∷ 0 ∷ [] ≡ emptiness_of w
+    pub sheet_told : (l m : List ℕ) → l ≡ m → l ≡ answered (sheet_verdict w) m
+    sheet_told l m h = rw (← z) h
+
+    pub count_told : (n k : ℕ) → n ≡ k → 0 ∷ n ∷ [] ≡ answered (sheet_verdict w) (0 ∷ k ∷ [])
+    count_told n k h = rw (← z, h)
+
+    -- neither styles nor rules
+    pub empty_styles : (n : ℕ) → n ≡ styles_in w → (n ≡ 0 → ⊥) → 0 ∷ 0 ∷ [] ≡ emptiness_of w
     unfolding emptiness_of sheet_of
-    empty_rules l =
-        let y : styles_in w ≡ 0 = omega arith in
-        let z : rules_in w ≡ suc (rules_in w - 1) = omega arith in
-        rw (verdict_none t, y, z)
+    empty_styles n h k = let y : styles_in w ≡ suc (styles_in w - 1) = omega arith in rw (← z, y)
 
-    pub empty_both : m ≡ 0 → 0 ∷ 1 ∷ [] ≡ emptiness_of w
+    pub empty_rules : (n : ℕ) → n ≡ styles_in w → n ≡ 0 → (m : ℕ) → m ≡ rules_in w → 0 ∷ cond (eqb m 0) 1 0 ∷ [] ≡ emptiness_of w
     unfolding emptiness_of sheet_of
-    empty_both l =
-        let y : styles_in w ≡ 0 = omega arith in
-        let z : rules_in w ≡ 0 = omega arith in
-        rw (verdict_none t, y, z)
+    empty_rules n h k m g = let y : styles_in w ≡ 0 = omega arith in rw (← z, y, ← g) (by m)
+      where
+        by : (m : ℕ) → 0 ∷ cond (eqb m 0) 1 0 ∷ [] ≡ 0 ∷ one_if (is_nil (spread (rule_at w) 0 m)) ∷ []
+        by zero = refl
+        by (suc m) = rw (ne_eqb (suc m) 0 (λ q. omega arith))
 
-  -- the verdict of a rule by number
-  pub verdict_broken : (r : ℕ) → b ≡ false → 11 ≡ rule_verdict w r
-  unfolding rule_verdict first_of
-  verdict_broken r t = rw (← e, t)
+    -- a rule by number
+    module _ (r n : ℕ) (h : n ≡ rules_in w) where
+      pub verdict_missing : n ≤ r → 9 ≡ rule_verdict w r
+      unfolding rule_verdict first_of
+      verdict_missing l = rw (sheet_there, ← h, le-ltb r n l)
 
-  module _ (r : ℕ) (t : b ≡ true) (n : ℕ) (h : n ≡ rules_in w) where
-    pub verdict_missing : n ≤ r → 9 ≡ rule_verdict w r
-    unfolding rule_verdict first_of
-    verdict_missing l = rw (← e, t, ← h, le-ltb r n l)
+      pub verdict_there : r < n → 0 ≡ rule_verdict w r
+      unfolding rule_verdict first_of
+      verdict_there l = rw (sheet_there, ← h, lt-ltb r n l)
 
-    pub verdict_there : r < n → 0 ≡ rule_verdict w r
-    unfolding rule_verdict first_of
-    verdict_there l = rw (← e, t, ← h, lt-ltb r n l)
+pub ruleset verdicts = (verdict_broken, verdict_fine, rule_broken, verdict_missing, verdict_there, not-true, not-false)
 
-pub ruleset verdicts = (verdict_broken, verdict_missing, verdict_there, not-true, not-false)
+pub ruleset counting = (sheet_refused, count_told)
 
-pub ruleset counting = (sheet_refused, count_told, not-true, not-false)
-
-pub ruleset empties = (empty_refused, empty_styles, empty_rules, empty_both, not-true, not-false)
+pub ruleset empties = (empty_refused, empty_styles, empty_rules)
 
 -- ---- a rule by number
 
@@ -116,20 +119,20 @@ unfolding rule_at
 rule_is w r o s d n m e f g h k =
     rw (length_between (part_at w) (rule_step_ends w) r, length_between (entry_at w Layout.ENTRY Layout.ENTRY-ROOM) (rule_entry_ends w) r, e, f, g, h, k)
 
-module _ (w : List ℕ) (r v : ℕ) (e : v ≡ rule_verdict w r) where
-  pub rule_refused : (v ≡ 0 → ⊥) → (x : Refusal) → x ≡ refusal_of v → (l : List ℕ) → told x ≡ answered (rule_verdict w r) l
+module _ (w : List ℕ) (r : ℕ) where
+  pub rule_refused : (x : Refusal) → number_of x ≡ rule_verdict w r → (l : List ℕ) → told x ≡ answered (rule_verdict w r) l
   unfolding rule_verdict
-  rule_refused h x f l = rw (f, ← e, ne_eqb v 0 h) (told_two _ _ v e h)
+  rule_refused x f l = refused_first _ x l refl f
 
-  module _ (z : v ≡ 0) where
+  module _ (z : 0 ≡ rule_verdict w r) where
     pub rule_told_lem : (l m : List ℕ) → l ≡ m → l ≡ answered (rule_verdict w r) m
-    rule_told_lem l m h = rw (← e, z) h
+    rule_told_lem l m h = rw (← z) h
 
     -- the sheet is one, and the rule is there
     rule_there : (sheet_shape w ≡ true) × (r < rules_in w)
     unfolding rule_verdict
     rule_there =
-        let (a, f) = first_clear 11 (not (sheet_shape w)) _ (omega arith) (sym e ∙ z) in
+        let (a, f) = first_clear 11 (not (sheet_shape w)) _ (omega arith) (sym z) in
         let (b, _) = first_clear 9 (not (ltb r (rules_in w))) [] (omega arith) f in
         (not-false _ a, ltb-true r (rules_in w) (not-false _ b))
 
@@ -197,35 +200,36 @@ entry_is w base room e e' p k n f g h i =
 
 -- ---- a combinator
 
-module _ (w : List ℕ) (s n : ℕ) (e : n ≡ ends_in w Layout.STEP-COMBINATOR Layout.STEP-WORDS s) where
-  pub before_child : n ≡ 0 → 0 ∷ 0 ∷ [] ≡ combinator_numbers (some (part_at w s))
-  unfolding part_at
-  before_child h = rw (← e, h)
-
-  pub before_descendant : (n ≡ 0 → ⊥) → 0 ∷ 1 ∷ [] ≡ combinator_numbers (some (part_at w s))
-  unfolding part_at
-  before_descendant h = rw (← e, ne_eqb n 0 h)
+pub before_is : (w : List ℕ) (s n : ℕ) → n ≡ ends_in w Layout.STEP-COMBINATOR Layout.STEP-WORDS s → (c : Combinator) → c ≡ combinator_of n
+    → 0 ∷ combinator_number c ∷ [] ≡ combinator_numbers (some (part_at w s))
+unfolding part_at
+before_is w s n e c f = rw (f, ← e) (by (eqb n 0) refl)
+  where
+    by : (t : Bool) → eqb n 0 ≡ t → 0 ∷ combinator_number (cond t Child Descendant) ∷ [] ≡ comb_numbers (comb_of n)
+    by true h = rw (eqb-true n 0 h)
+    by false h = rw (ne_eqb n 0 (eqb-false n 0 h))
 
 -- ---- a step
 
-module _ (w : List ℕ) (r i v : ℕ) (e : v ≡ rule_verdict w r) (a : StepAnswer) where
-  pub step_refused : (v ≡ 0 → ⊥) → (x : Refusal) → x ≡ refusal_of v → (a.verdict ≡ step.Refused x) × (a.step ≡ asking TypeChoice.Unset PartChoice.Unset) → StepRead w r i a
-  step_refused h x f g = record { verdict = rw g.0 (rule_refused w r v e h x f _); step = rw (← e, ne_eqb v 0 h) g.1 }
+module _ (w : List ℕ) (r i : ℕ) where
+  pub step_refused : (x : Refusal) → number_of x ≡ rule_verdict w r → StepRead w r i (Err x)
+  step_refused x f =
+      let n : eqb (rule_verdict w r) 0 ≡ false = ne_eqb _ 0 (λ z. refusal_number x (f ∙ z)) in
+      record { verdict = rule_refused w r x f _; step = rw n }
 
-  pub step_absent : v ≡ 0 → (n : ℕ) → n ≡ rule_step_ends w r - start_of (rule_step_ends w) r → n ≤ i
-      → (a.verdict ≡ step.Absent) × (a.step ≡ asking TypeChoice.Unset PartChoice.Unset) → StepRead w r i a
-  unfolding rule_at
-  step_absent z n f h g =
-      let p : ltb i (length (rule_at w r).selector) ≡ false = rw (length_between (part_at w) (rule_step_ends w) r, ← f) (le-ltb i n h) in
-      record { verdict = rw (g.0, ← e, z, p); step = rw (← e, z, p) g.1 }
+  module _ (z : 0 ≡ rule_verdict w r) (n : ℕ) (f : n ≡ rule_step_ends w r - start_of (rule_step_ends w) r) where
+    pub step_absent : n ≤ i → StepRead w r i (Ok None)
+    unfolding rule_at
+    step_absent h =
+        let p : ltb i (length (rule_at w r).selector) ≡ false = rw (length_between (part_at w) (rule_step_ends w) r, ← f) (le-ltb i n h) in
+        record { verdict = rw (← z, p); step = rw (← z, p) }
 
-pub step_found : (w : List ℕ) (r i v : ℕ) → v ≡ rule_verdict w r → v ≡ 0 → (n : ℕ) → n ≡ rule_step_ends w r - start_of (rule_step_ends w) r → i < n
-    → (from : ℕ) → from ≡ start_of (rule_step_ends w) r → (at : ℕ) → at ≡ step_place (from + i) → (s : SelectorStep) → s ≡ step_from (drop at w)
-    → StepRead w r i (record { verdict = step.Found; step = s })
-unfolding rule_at
-step_found w r i v e z n f h from g at k s j =
-    let p : ltb i (length (rule_at w r).selector) ≡ true = rw (length_between (part_at w) (rule_step_ends w) r, ← f) (lt-ltb i n h) in
-    record { verdict = rw (← e, z, p); step = rw (← e, z, p) (j ∙ rw (k, g)) }
+    pub step_found : i < n → (from : ℕ) → from ≡ start_of (rule_step_ends w) r → (at : ℕ) → at ≡ step_place (from + i) → (s : SelectorStep) → s ≡ step_from (drop at w)
+        → StepRead w r i (Ok (Some s))
+    unfolding rule_at
+    step_found h from g at k s j =
+        let p : ltb i (length (rule_at w r).selector) ≡ true = rw (length_between (part_at w) (rule_step_ends w) r, ← f) (lt-ltb i n h) in
+        record { verdict = rw (← z, p); step = rw (← z, p) (j ∙ rw (k, g)) }
 
 -- ---- a direct style
 
@@ -237,53 +241,49 @@ pub style_is : (w : List ℕ) (d o s n : ℕ)
 unfolding style_at
 style_is w d o s n e f g = rw (length_spread, e, f, g)
 
-module _ (w : List ℕ) (b : Bool) (e : b ≡ sheet_shape w) (d : ℕ) where
-  pub style_refused : b ≡ false → (l : List ℕ) → told BrokenShape ≡ style_there w d l
-  style_refused t l = sheet_refused w b e t _
+module _ (w : List ℕ) (z : 0 ≡ sheet_verdict w) (d c : ℕ) (x : c ≡ styles_in w) where
+  pub style_absent : c ≤ d → (l : List ℕ) → 0 ∷ [] ≡ style_there w d l
+  style_absent h l = sheet_told w z _ _ (rw (← x, le-ltb d c h))
 
-  module _ (t : b ≡ true) (c : ℕ) (x : c ≡ styles_in w) where
-    pub style_absent : c ≤ d → (l : List ℕ) → 0 ∷ [] ≡ style_there w d l
-    style_absent h l = sheet_told w b e t _ _ (rw (← x, le-ltb d c h))
+  module _ (y : d < c) where
+    pub style_told_lem : (l m : List ℕ) → l ≡ m → l ≡ style_there w d m
+    style_told_lem l m h = sheet_told w z _ _ (rw (← x, lt-ltb d c y) h)
 
-    module _ (y : d < c) where
-      pub style_told_lem : (l m : List ℕ) → l ≡ m → l ≡ style_there w d m
-      style_told_lem l m h = sheet_told w b e t _ _ (rw (← x, lt-ltb d c y) h)
+    module _ (n : ℕ) (f : n ≡ style_entry_ends w d - start_of (style_entry_ends w) d) (i : ℕ) where
+      pub style_entry_absent : n ≤ i → 0 ∷ [] ≡ style_there w d (entry_numbers (get_elem? (style_at w d).entries i))
+      unfolding style_at
+      style_entry_absent h = style_told_lem _ _ (ap entry_numbers (sym (between_past (entry_at w Layout.STYLE-ENTRY Layout.STYLE-ENTRY-ROOM) (style_entry_ends w) d n f i h)))
 
-      module _ (n : ℕ) (f : n ≡ style_entry_ends w d - start_of (style_entry_ends w) d) (i : ℕ) where
-        pub style_entry_absent : n ≤ i → 0 ∷ [] ≡ style_there w d (entry_numbers (get_elem? (style_at w d).entries i))
+      module _ (from : ℕ) (g : from ≡ start_of (style_entry_ends w) d) (h : i < n) where
+        style_entry_below : from + i < style_entries_in w
+        style_entry_below = omega (arith, style_entries_end w (sheet_there w z) d (rw (← x) y))
+
+        pub style_entry_fits : Fits w32 (from + i)
+        style_entry_fits = record { fits = omega (arith, style_entry_below, (entries_few w (sheet_there w z)).1) }
+
+        pub style_entry_held : get_or w (Layout.STYLE-ENTRY + (from + i)) 0 ≤ 65535
+        style_entry_held = style_property_few w (sheet_there w z) (from + i) style_entry_below
+
+        pub style_entry_found : (l : List ℕ) → l ≡ entry_numbers (some (entry_at w Layout.STYLE-ENTRY Layout.STYLE-ENTRY-ROOM (from + i)))
+            → l ≡ style_there w d (entry_numbers (get_elem? (style_at w d).entries i))
         unfolding style_at
-        style_entry_absent h = style_told_lem _ _ (ap entry_numbers (sym (between_past (entry_at w Layout.STYLE-ENTRY Layout.STYLE-ENTRY-ROOM) (style_entry_ends w) d n f i h)))
+        style_entry_found l p = style_told_lem l _ (p ∙ rw (between_at (entry_at w Layout.STYLE-ENTRY Layout.STYLE-ENTRY-ROOM) (style_entry_ends w) d n f i h, g))
 
-        module _ (from : ℕ) (g : from ≡ start_of (style_entry_ends w) d) (h : i < n) where
-          style_entry_below : from + i < style_entries_in w
-          style_entry_below = omega (arith, style_entries_end w (sym e ∙ t) d (rw (← x) y))
-
-          pub style_entry_fits : Fits w32 (from + i)
-          style_entry_fits = record { fits = omega (arith, style_entry_below, (entries_few w (sym e ∙ t)).1) }
-
-          pub style_entry_held : get_or w (Layout.STYLE-ENTRY + (from + i)) 0 ≤ 65535
-          style_entry_held = style_property_few w (sym e ∙ t) (from + i) style_entry_below
-
-          pub style_entry_found : (l : List ℕ) → l ≡ entry_numbers (some (entry_at w Layout.STYLE-ENTRY Layout.STYLE-ENTRY-ROOM (from + i)))
-              → l ≡ style_there w d (entry_numbers (get_elem? (style_at w d).entries i))
-          unfolding style_at
-          style_entry_found l p = style_told_lem l _ (p ∙ rw (between_at (entry_at w Layout.STYLE-ENTRY Layout.STYLE-ENTRY-ROOM) (style_entry_ends w) d n f i h, g))
-
-pub ruleset styles = (style_refused, style_absent, style_told_lem, style_entry_absent, style_entry_fits, style_entry_held, style_entry_found, not-true, not-false)
+pub ruleset styles = (style_refused, style_absent, style_told_lem, style_entry_absent, style_entry_fits, style_entry_held, style_entry_found)
 
 -- ---- the weight of a rule
 
-module _ (w : List ℕ) (r v : ℕ) (e : v ≡ rule_verdict w r) (ranking : ℕ) where
-  pub weight_refused : (v ≡ 0 → ⊥) → (x : Refusal) → x ≡ refusal_of v → (l : List ℕ) → told x ≡ answered (weight_verdict w r ranking) l
+module _ (w : List ℕ) (r ranking : ℕ) where
+  pub weight_refused : (x : Refusal) → number_of x ≡ rule_verdict w r → (l : List ℕ) → told x ≡ answered (weight_verdict w r ranking) l
   unfolding weight_verdict rule_verdict
-  weight_refused h x f l =
-      let q : v ≡ weight_verdict w r ranking = first_stop (check 11 (not (sheet_shape w)) ∷ check 9 (not (ltb r (rules_in w))) ∷ []) (check 6 (ltb 1 ranking) ∷ []) v e h in
-      rw (f, ← q, ne_eqb v 0 h) (told_two _ _ v e h)
+  weight_refused x f l =
+      refused_first _ x l refl
+      (first_stop (check 11 (not (sheet_shape w)) ∷ check 9 (not (ltb r (rules_in w))) ∷ []) (check 6 (ltb 1 ranking) ∷ []) (number_of x) f (refusal_number x))
 
-  module _ (z : v ≡ 0) where
+  module _ (z : 0 ≡ rule_verdict w r) where
     last : weight_verdict w r ranking ≡ first_of (check 6 (ltb 1 ranking) ∷ [])
     unfolding weight_verdict rule_verdict
-    last = sym (first_go (check 11 (not (sheet_shape w)) ∷ check 9 (not (ltb r (rules_in w))) ∷ []) (check 6 (ltb 1 ranking) ∷ []) v _ e z refl refl)
+    last = sym (first_go (check 11 (not (sheet_shape w)) ∷ check 9 (not (ltb r (rules_in w))) ∷ []) (check 6 (ltb 1 ranking) ∷ []) 0 _ z refl refl refl)
 
     pub weight_code : 1 < ranking → (l : List ℕ) → told CodeOutOfRange ≡ answered (weight_verdict w r ranking) l
     unfolding first_of

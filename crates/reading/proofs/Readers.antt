@@ -1,7 +1,8 @@
 -- What the calls read is the sheet that the words hold: its rules and styles by number, and their steps as typed values. Assumes nothing.
 use mathlib.Core.Path.{◌≡◌, refl, sym, ap, ◌∙◌}
 use mathlib.Core.Bool.{true}
-use mathlib.Core.Option.{Option, none, some}
+use mathlib.Core.Option as maybe
+use mathlib.Core.Option.{none, some}
 use mathlib.Core.List.{List}
 use Prim.Native.Nat.{ℕ, ◌+◌, ◌-◌, ◌≤◌, ◌<◌}
 use native.Mathlib.Nat.{add-zero}
@@ -23,17 +24,19 @@ use Rattle.sheet.specs.Layout.{rules_in, steps_in, step_place}
 use Rattle.sheet.specs.Sheets.{part_at, rule_at, rule_step_ends}
 use Rattle.sheet.specs.Shape.{sheet_shape}
 use Rattle.sheet.proofs.ReadLaws.{room, steps_few, step_ids, rule_steps_end, tags_same, length_between, between_at}
-use Rattle.reading.specs.declared.StepAnswer.{StepAnswer}
-use Rattle.reading.specs.Reading.{rule_verdict, StepRead}
-use Rattle.reading.proofs.Answers.{verdict_there}
+use Rattle.std.specs.Prelude.{Result, Option}
+use Rattle.lent.specs.declared.Refusal.{Refusal}
+use Rattle.steps.specs.declared.SelectorStep.{SelectorStep}
+use Rattle.reading.specs.Reading.{rule_verdict, step_of, StepRead}
+use Rattle.reading.proofs.Answers.{verdict_fine, verdict_there}
 
 -- ---- steps
 
-type_back : (t : Option ℕ) → type_of (type_from t) ≡ t
+type_back : (t : maybe.Option ℕ) → type_of (type_from t) ≡ t
 type_back none = refl
 type_back (some n) = refl
 
-part_back : (t : Option ℕ) → part_of (part_from t) ≡ t
+part_back : (t : maybe.Option ℕ) → part_of (part_from t) ≡ t
 part_back none = refl
 part_back (some n) = refl
 
@@ -65,14 +68,14 @@ module _ (w : List ℕ) (shape : sheet_shape w ≡ true) where
       (rw (get_or-drop (step_place s) w 5 0) (ids_back {A = PseudoClassId} (λ n. record { 0 = n }) (λ c. c.0) (λ n. refl) (record { 0 = 0 }) w (step_place s) 14 (get_or w (step_place s + 5) 0) pseudos (omega arith)))
 
   -- so that a step which `rule_step` finds is the step of the rule's selector
-  pub step_of_rule : (r i : ℕ) (a : StepAnswer) → StepRead w r i a → r < rules_in w → i < length (rule_at w r).selector
-      → (p : Part Tags) × (get_elem? (rule_at w r).selector i ≡ some p) × (step_tags a.step ≡ p.step)
+  pub step_of_rule : (r i : ℕ) (a : Result (Option SelectorStep) Refusal) → StepRead w r i a → r < rules_in w → i < length (rule_at w r).selector
+      → (p : Part Tags) × (get_elem? (rule_at w r).selector i ≡ some p) × (step_tags (step_of a) ≡ p.step)
   unfolding rule_at part_at
   step_of_rule r i a read h g =
       let n = length_between (part_at w) (rule_step_ends w) r in
       let l : i < rule_step_ends w r - start_of (rule_step_ends w) r = rw n at g in
       let s = start_of (rule_step_ends w) r + i in
-      let z : 0 ≡ rule_verdict w r = verdict_there w true (sym shape) r refl (rules_in w) refl h in
+      let z : 0 ≡ rule_verdict w r = verdict_there w (verdict_fine w true (sym shape) refl) r (rules_in w) refl h in
       let there : s < steps_in w = omega (arith, rule_steps_end w shape r h) in (
         part_at w s,
         between_at (part_at w) (rule_step_ends w) r (rule_step_ends w r - start_of (rule_step_ends w) r) refl i l,

@@ -99,11 +99,7 @@ pub fn rule_step(sheet: &[u32], number: u32, i: u32) -> Result<Option<SelectorSt
 }
 
 // The combinator between steps i and i + 1 of a rule.
-pub fn rule_combinator(
-    sheet: &[u32],
-    number: u32,
-    i: u32,
-) -> Result<Option<Combinator>, Refusal>
+pub fn rule_combinator(sheet: &[u32], number: u32, i: u32) -> Result<Option<Combinator>, Refusal>
     ensures { combinator_told result ≡ answered (rule_verdict sheet.now number) (combinator_numbers (get_elem? (rule_at sheet.now number).selector (suc i))) }
 {
     let steps = layout::RULE_STEP_ENDS;
@@ -123,10 +119,7 @@ pub fn rule_combinator(
 fn combinator_before(sheet: &[u32], s: u32) -> Combinator
     ensures { combinator_told (Ok (Some result)) ≡ combinator_numbers (some (part_at sheet.now s)) }
 {
-    if cell(sheet, layout::STEP_COMBINATORS, s) == 0 {
-        return Combinator::Child;
-    }
-    Combinator::Descendant
+    Combinator::from(cell(sheet, layout::STEP_COMBINATORS, s))
 }
 
 // Entry e of the pool at `base`.

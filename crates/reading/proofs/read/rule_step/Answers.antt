@@ -2,14 +2,14 @@ use borrow.Author.Rules.{rules}
 use Rattle.reading.proofs.Answers.{step_refused, step_absent, step_fits, step_found}
 use Rattle.reading.proofs.read.rule_step.Goals as goal
 
-pub returns-then-v-ne0 : goal.returns-then-v-ne0
-returns-then-v-ne0 c = search (step_refused, rules)
+pub returns-in_err-check_rule : goal.returns-in_err-check_rule
+returns-in_err-check_rule c = search (step_refused, step_absent, step_fits, step_found, rules)
 
 pub returns-then-list_length-i : goal.returns-then-list_length-i
-returns-then-list_length-i c = search (step_absent, rules)
+returns-then-list_length-i c = search (step_refused, step_absent, step_fits, step_found, c.in_ok-check_rule.ensures, rules)
 
 pub overflow_add-start_of : goal.overflow_add-start_of
-overflow_add-start_of c = search (step_fits, rules)
+overflow_add-start_of c = search (step_refused, step_absent, step_fits, step_found, c.in_ok-check_rule.ensures, rules)
 
 pub returns : goal.returns
-returns c = search (step_found, rules)
+returns c = search (step_refused, step_absent, step_fits, step_found, c.in_ok-check_rule.ensures, rules)

@@ -2,8 +2,5 @@ use borrow.Author.Rules.{rules}
 use Rattle.reading.proofs.Answers.{counting}
 use Rattle.reading.proofs.read.style_count.Goals as goal
 
-pub returns-then-not-is_sheet : goal.returns-then-not-is_sheet
-returns-then-not-is_sheet c = search (counting, rules)
-
-pub returns : goal.returns
-returns c = search (counting, rules)
+pub returns-in_err-check_sheet : goal.returns-in_err-check_sheet
+returns-in_err-check_sheet c = search (counting, rules)
