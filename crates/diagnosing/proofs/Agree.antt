@@ -9,20 +9,15 @@ use native.Mathlib.Omega.{arith}
 use lib.Dec.{ltb, eqb}
 use borrow.Author.Tests.{eq-eqb, ne_eqb, ltb-true, ltb-false}
 use Rattle.theory.specs.Lists.{spread}
-use Rattle.selector.specs.declared.Diagnosis.{Diagnosis}
-use Rattle.selector.specs.declared.Diagnosis.TheVariants.{Fits, EmptySelectorWithNonEmptyPath, MissingSubject, StepMismatch, TrailingSubjects, MissingDescendant, Refused}
+use Rattle.std.specs.Prelude.{Ok, Err}
+use Rattle.selector.specs.declared.SelectorMismatch.TheVariants.{EmptySelectorWithNonEmptyPath, TrailingSubjects, MissingDescendant}
 use Rattle.selector.specs.Matching.{fits_from, any_from, hit_at, far_at, fits}
-use Rattle.selector.specs.Diagnosing.{is_fit, is_mismatch, some_fit, other_errors, last_or, tried, judge, diagnose}
+use Rattle.selector.specs.Diagnosing.{Diagnosis, Fits, is_fit, is_mismatch, some_fit, other_errors, last_or, tried, judge, diagnose}
 use Rattle.diagnosing.proofs.Judging.{tried_one}
 
 is_fit_lem : (d : Diagnosis) → is_fit d ≡ true → d ≡ Fits
-is_fit_lem Fits e = refl
-is_fit_lem EmptySelectorWithNonEmptyPath e = cc
-is_fit_lem (MissingSubject k i) e = cc
-is_fit_lem (StepMismatch k i) e = cc
-is_fit_lem (TrailingSubjects n i) e = cc
-is_fit_lem (MissingDescendant k i) e = cc
-is_fit_lem (Refused r) e = cc
+is_fit_lem (Ok u) e = refl
+is_fit_lem (Err r) e = cc
 
 -- a test in both: what a branch comes to may use how the test came out
 both : (b : Bool) (x y : Diagnosis) (u v : Bool) → (b ≡ true → is_fit x ≡ u) → (b ≡ false → is_fit y ≡ v) → is_fit (cond b x y) ≡ cond b u v
@@ -45,10 +40,10 @@ tries f g e (suc n) from last l =
     ∙ rw add-one
 
 module _ (hit : ℕ → ℕ → Bool) (far : ℕ → Bool) (m : ℕ) where
-  ends : (k i : ℕ) → i < m → is_fit (cond (ltb (i + 1) m) (TrailingSubjects (k + 1) (i + 1)) Fits) ≡ eqb (i + 1) m
+  ends : (k i : ℕ) → i < m → is_fit (cond (ltb (i + 1) m) (Err (TrailingSubjects (k + 1) (i + 1))) Fits) ≡ eqb (i + 1) m
   ends k i l = by (ltb (i + 1) m) refl
     where
-      by : (b : Bool) → ltb (i + 1) m ≡ b → is_fit (cond b (TrailingSubjects (k + 1) (i + 1)) Fits) ≡ eqb (i + 1) m
+      by : (b : Bool) → ltb (i + 1) m ≡ b → is_fit (cond b (Err (TrailingSubjects (k + 1) (i + 1))) Fits) ≡ eqb (i + 1) m
       by true e = sym (ne_eqb (i + 1) m (let h : i + 1 < m = ltb-true _ _ e in omega arith))
       by false e = sym (eq-eqb (i + 1) m (let h : m ≤ i + 1 = ltb-false _ _ e in omega arith))
 
@@ -59,7 +54,7 @@ module _ (hit : ℕ → ℕ → Bool) (far : ℕ → Bool) (m : ℕ) where
       both (ltb i m) _ _ _ _
       (λ _. both (hit k i) _ _ _ _
       (λ _. both (far k) _ _ _ _
-      (λ _. tries (λ j. judge hit far m after (k + 1) j) (λ j. fits_from hit far m after (k + 1) j) (λ j. agrees after (k + 1) j) (m - (i + 1)) (i + 1) (MissingDescendant (k + 1) (i + 1)) refl)
+      (λ _. tries (λ j. judge hit far m after (k + 1) j) (λ j. fits_from hit far m after (k + 1) j) (λ j. agrees after (k + 1) j) (m - (i + 1)) (i + 1) (Err (MissingDescendant (k + 1) (i + 1))) refl)
       (λ _. agrees after (k + 1) (i + 1)))
       (λ _. refl))
       (λ _. refl)
@@ -68,7 +63,7 @@ same : (steps : List ℕ) (n : ℕ) (combinators path : List ℕ) (m : ℕ) → 
 unfolding diagnose fits
 same steps zero combinators path m = empty (eqb m 0)
   where
-    empty : (b : Bool) → is_fit (cond b Fits EmptySelectorWithNonEmptyPath) ≡ b
+    empty : (b : Bool) → is_fit (cond b Fits (Err EmptySelectorWithNonEmptyPath)) ≡ b
     empty true = refl
     empty false = refl
 same steps (suc n) combinators path m = agrees (hit_at steps path) (far_at combinators) m n 0 0

@@ -7,6 +7,7 @@ use native.Mathlib.Numerals.{add-one}
 use borrow.Author.Tests.{lt-ltb, le-ltb}
 use Rattle.theory.specs.Lists.{spread}
 use Rattle.std.specs.Prelude.{Ok, Err}
+use Rattle.selector.specs.declared.SelectorMismatch.{SelectorMismatch}
 use Rattle.selector.specs.declared.SelectorMismatch.TheVariants.{EmptySelectorWithNonEmptyPath, MissingSubject, StepMismatch, TrailingSubjects, MissingDescendant}
 use Rattle.selector.specs.Diagnosing.{Diagnosis, Fits, judge, is_fit, is_mismatch, some_fit, other_errors, last_or, tried}
 use Rattle.matching.proofs.Ways.{none_left, one_left, missed, matched}
@@ -57,13 +58,12 @@ tried_one last (Err (TrailingSubjects n i)) l = refl
 tried_one last (Err (MissingDescendant k i)) l = refl
 
 -- an error that counts takes the place of the last
-tried_counts : (last d : Diagnosis) (l : List Diagnosis) → (d ≡ Fits → ⊥) → ((k i : ℕ) → d ≡ Err (StepMismatch k i) → ⊥) → tried last (d ∷ l) ≡ tried d l
-tried_counts last (Ok u) l e g = absurd (e refl)
-tried_counts last (Err EmptySelectorWithNonEmptyPath) l e g = tried_one _ _ _
-tried_counts last (Err (MissingSubject k i)) l e g = tried_one _ _ _
-tried_counts last (Err (StepMismatch k i)) l e g = absurd (g k i refl)
-tried_counts last (Err (TrailingSubjects n i)) l e g = tried_one _ _ _
-tried_counts last (Err (MissingDescendant k i)) l e g = tried_one _ _ _
+tried_counts : (last : Diagnosis) (x : SelectorMismatch) (l : List Diagnosis) → ((k i : ℕ) → x ≡ StepMismatch k i → ⊥) → tried last (Err x ∷ l) ≡ tried (Err x) l
+tried_counts last EmptySelectorWithNonEmptyPath l g = tried_one _ _ _
+tried_counts last (MissingSubject k i) l g = tried_one _ _ _
+tried_counts last (StepMismatch k i) l g = absurd (g k i refl)
+tried_counts last (TrailingSubjects n i) l g = tried_one _ _ _
+tried_counts last (MissingDescendant k i) l g = tried_one _ _ _
 
 module _ (f : ℕ → Diagnosis) (m from : ℕ) (last : Diagnosis) where
   pub try_none : m ≤ from → last ≡ tried last (spread f from (m - from))
@@ -77,10 +77,11 @@ module _ (f : ℕ → Diagnosis) (m from : ℕ) (last : Diagnosis) where
     pub try_fits : d ≡ Fits → Fits ≡ tried last (spread f from (m - from))
     try_fits e = rw (one_more_lem, tried_one, e)
 
-    pub try_dropped : (k i : ℕ) → d ≡ Err (StepMismatch k i) → (r : Diagnosis) → r ≡ tried last (spread f (from + 1) (m - (from + 1))) → r ≡ tried last (spread f from (m - from))
-    try_dropped k i e r g = rw (one_more_lem, tried_one, e) g
+    module _ (x : SelectorMismatch) (e : d ≡ Err x) where
+      pub try_dropped : (k i : ℕ) → x ≡ StepMismatch k i → (r : Diagnosis) → r ≡ tried last (spread f (from + 1) (m - (from + 1))) → r ≡ tried last (spread f from (m - from))
+      try_dropped k i s r g = rw (one_more_lem, tried_one, e, s) g
 
-    pub try_kept : (d ≡ Fits → ⊥) → ((x x' : ℕ) → d ≡ Err (StepMismatch x x') → ⊥) → (r : Diagnosis) → r ≡ tried d (spread f (from + 1) (m - (from + 1))) → r ≡ tried last (spread f from (m - from))
-    try_kept e n r g = g ∙ sym (ap (tried last) one_more_lem ∙ tried_counts last d _ e n)
+      pub try_kept : ((k i : ℕ) → x ≡ StepMismatch k i → ⊥) → (r : Diagnosis) → r ≡ tried (Err x) (spread f (from + 1) (m - (from + 1))) → r ≡ tried last (spread f from (m - from))
+      try_kept n r g = g ∙ sym (ap (tried last) one_more_lem ∙ rw e (tried_counts last x _ n))
 
 pub ruleset judging = (judge_missing, judge_mismatch, judge_trailing, judge_fits, judge_child, judge_descendant, try_none, try_fits, try_dropped, try_kept)

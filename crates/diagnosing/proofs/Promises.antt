@@ -14,7 +14,7 @@ use Rattle.selector.specs.Diagnosing.{Diagnosis, Fits, diagnose, diagnosis_told,
 use Rattle.selector.proofs.Distinct.{matching_distinct, diagnosis_distinct}
 use Rattle.diagnosing.proofs.Agree.{diagnosis_fits}
 
-ok_is : {A E : Type 0} → A → Result A E → A
+abbrev ok_is : {A E : Type 0} → A → Result A E → A
 ok_is a (Ok x) = x
 ok_is a (Err e) = a
 

@@ -80,9 +80,20 @@ fn try_later(
     }
     let found = diagnose_path_from(steps, n, combinators, path, m, step, from);
     let next = from + 1;
-    match found {
-        Ok(()) => Ok(()),
-        Err(SelectorMismatch::StepMismatch { .. }) => try_later(steps, n, combinators, path, m, step, next, last),
+    let Err(error) = found else {
+        return Ok(());
+    };
+    match error {
+        SelectorMismatch::StepMismatch { .. } => try_later(
+            steps,
+            n,
+            combinators,
+            path,
+            m,
+            step,
+            next,
+            last,
+        ),
         _ => try_later(steps, n, combinators, path, m, step, next, found),
     }
 }
@@ -112,13 +123,5 @@ pub fn diagnose_path(
         }
         return Ok(Err(SelectorMismatch::EmptySelectorWithNonEmptyPath));
     }
-    Ok(diagnose_path_from(
-        steps,
-        step_count,
-        combinators,
-        path,
-        path_count,
-        0,
-        0,
-    ))
+    Ok(diagnose_path_from(steps, step_count, combinators, path, path_count, 0, 0))
 }

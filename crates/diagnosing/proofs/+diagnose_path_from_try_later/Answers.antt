@@ -2,42 +2,32 @@ use Rattle.std.proofs.Common.{rules}
 use Rattle.diagnosing.proofs.+diagnose_path_from_try_later.Goals as goal
 use Rattle.diagnosing.proofs.Judging.{judging}
 
--- src/lib.rt:30:9
 pub diagnose_path_from-returns-then-m-place : goal.diagnose_path_from-returns-then-m-place
 diagnose_path_from-returns-then-m-place t c = search (judging, rules)
 
--- src/lib.rt:36:9
 pub diagnose_path_from-returns-then-not-hits : goal.diagnose_path_from-returns-then-not-hits
 diagnose_path_from-returns-then-not-hits t c = search (judging, rules)
 
--- src/lib.rt:16:1
 pub diagnose_path_from-returns-then-is_far : goal.diagnose_path_from-returns-then-is_far
 diagnose_path_from-returns-then-is_far t c = search (judging, rules)
 
--- src/lib.rt:16:1
 pub diagnose_path_from-returns-else-is_far : goal.diagnose_path_from-returns-else-is_far
 diagnose_path_from-returns-else-is_far t c = search (judging, rules)
 
--- src/lib.rt:16:1
 pub diagnose_path_from-returns-then-after-m : goal.diagnose_path_from-returns-then-after-m
 diagnose_path_from-returns-then-after-m t c = search (judging, rules)
 
--- src/lib.rt:16:1
 pub diagnose_path_from-returns-else-after-m : goal.diagnose_path_from-returns-else-after-m
 diagnose_path_from-returns-else-after-m t c = search (judging, rules)
 
--- src/lib.rt:79:9
 pub try_later-returns-then-m-from : goal.try_later-returns-then-m-from
 try_later-returns-then-m-from t c = search (judging, rules)
 
--- src/lib.rt:64:1
-pub try_later-returns-in-Fits : goal.try_later-returns-in-Fits
-try_later-returns-in-Fits t c = search (judging, rules)
+pub try_later-returns-in_default : goal.try_later-returns-in_default
+try_later-returns-in_default t c = search (judging, rules)
 
--- src/lib.rt:64:1
 pub try_later-returns-in-StepMismatch : goal.try_later-returns-in-StepMismatch
 try_later-returns-in-StepMismatch t c = search (judging, rules)
 
--- src/lib.rt:64:1
-pub try_later-returns-in_default : goal.try_later-returns-in_default
-try_later-returns-in_default t c = search (judging, rules)
+pub try_later-returns-in_default-error : goal.try_later-returns-in_default-error
+try_later-returns-in_default-error t c = search (judging, rules)
