@@ -1,38 +1,29 @@
 // Why a selector does not fit a path: `diagnose_path` of selector.rs.
 #![tactic(auto)]
 
-ghost use Rattle.std.specs.Prelude.{◌≡◌, false, ◌<◌, ◌≤◌, ◌+◌, ◌-◌};
+ghost use Rattle.std.specs.Prelude.{◌≡◌, ◌<◌, ◌+◌, ◌-◌};
 ghost use Rattle.theory.specs.Lists.{spread};
-ghost use Rattle.selector.specs.Checks.{subjects_off};
 ghost use Rattle.selector.specs.Matching.{hit_at, far_at};
 ghost use Rattle.selector.specs.Diagnosing.{tried, judge, diagnosis_told, diagnosis_of};
 
 use checks::held::check_path;
 use lent::Refusal;
-use matching::held::{hits, is_far};
+use matching::held::{Pairing, hits, is_far};
 use selector::SelectorMismatch;
 
 // What is found of the steps from `step` on, up to the last of n, with `step` at `place`.
 #[cycle(diagnose_path_from_try_later)]
-fn diagnose_path_from(
-    steps: &[u32],
-    n: usize,
-    combinators: &[u32],
-    path: &[u32],
-    m: usize,
-    step: usize,
-    place: usize,
-) -> Result<(), SelectorMismatch>
-    requires { (step < n) × (n ≤ 8) × (m ≤ 32) × (subjects_off path.now m ≡ false) }
-    ensures { result ≡ judge (hit_at steps.now path.now) (far_at combinators.now) m (n - (step + 1)) step place }
+fn diagnose_path_from(p: Pairing, step: usize, place: usize) -> Result<(), SelectorMismatch>
+    requires { step < p.n }
+    ensures { result ≡ judge (hit_at p.entry.steps.now p.entry.path.now) (far_at p.entry.combinators.now) p.entry.m (p.entry.n - (step + 1)) step place }
 {
-    if m <= place {
+    if p.m <= place {
         return Err(SelectorMismatch::MissingSubject {
             step_index: step,
             path_index: place,
         });
     }
-    if !hits(steps, step, path, m, place) {
+    if !hits(p.steps, step, p.path, p.m, place) {
         return Err(SelectorMismatch::StepMismatch {
             step_index: step,
             path_index: place,
@@ -40,17 +31,17 @@ fn diagnose_path_from(
     }
     let next = step + 1;
     let after = place + 1;
-    if next < n {
-        if is_far(combinators, step) {
+    if next < p.n {
+        if is_far(p.combinators, step) {
             let none = Err(SelectorMismatch::MissingDescendant {
                 step_index: next,
                 after_path_index: after,
             });
-            try_later(steps, n, combinators, path, m, next, after, none)
+            try_later(p, next, after, none)
         } else {
-            diagnose_path_from(steps, n, combinators, path, m, next, after)
+            diagnose_path_from(p, next, after)
         }
-    } else if after < m {
+    } else if after < p.m {
         Err(SelectorMismatch::TrailingSubjects {
             step_count: next,
             path_index: after,
@@ -63,38 +54,25 @@ fn diagnose_path_from(
 // What is found of `step` at `from` and each later place: a fit, or the last error that counts, `last` if there is none.
 #[cycle(diagnose_path_from_try_later)]
 fn try_later(
-    steps: &[u32],
-    n: usize,
-    combinators: &[u32],
-    path: &[u32],
-    m: usize,
+    p: Pairing,
     step: usize,
     from: usize,
     last: Result<(), SelectorMismatch>,
 ) -> Result<(), SelectorMismatch>
-    requires { (step < n) × (n ≤ 8) × (m ≤ 32) × (subjects_off path.now m ≡ false) }
-    ensures { result ≡ tried last (spread (judge (hit_at steps.now path.now) (far_at combinators.now) m (n - (step + 1)) step) from (m - from)) }
+    requires { step < p.n }
+    ensures { result ≡ tried last (spread (judge (hit_at p.entry.steps.now p.entry.path.now) (far_at p.entry.combinators.now) p.entry.m (p.entry.n - (step + 1)) step) from (p.entry.m - from)) }
 {
-    if m <= from {
+    if p.m <= from {
         return last;
     }
-    let found = diagnose_path_from(steps, n, combinators, path, m, step, from);
+    let found = diagnose_path_from(p, step, from);
     let next = from + 1;
     let Err(error) = found else {
         return Ok(());
     };
     match error {
-        SelectorMismatch::StepMismatch { .. } => try_later(
-            steps,
-            n,
-            combinators,
-            path,
-            m,
-            step,
-            next,
-            last,
-        ),
-        _ => try_later(steps, n, combinators, path, m, step, next, found),
+        SelectorMismatch::StepMismatch { .. } => try_later(p, step, next, last),
+        _ => try_later(p, step, next, found),
     }
 }
 
@@ -123,5 +101,12 @@ pub fn diagnose_path(
         }
         return Ok(Err(SelectorMismatch::EmptySelectorWithNonEmptyPath));
     }
-    Ok(diagnose_path_from(steps, step_count, combinators, path, path_count, 0, 0))
+    let p = Pairing {
+        steps,
+        n: step_count,
+        combinators,
+        path,
+        m: path_count,
+    };
+    Ok(diagnose_path_from(p, 0, 0))
 }

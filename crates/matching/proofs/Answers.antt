@@ -67,7 +67,7 @@ module _ (steps : List ℕ) (n : ℕ) (combinators : List ℕ) (c : ℕ) (path :
     unfolding matching_of
     matching_some some b f =
         let g : fits steps n combinators path m ≡ fits_from (hit_at steps path) (far_at combinators) m (n - 1) 0 0 =
-            ap (λ (k : ℕ). fits steps k combinators path m) (more n some) ∙ (unfold fits in refl) in
+        ap (λ (k : ℕ). fits steps k combinators path m) (more n some) ∙ (unfold fits in refl) in
         rw (told_is, g, ← f)
 
 pub ruleset answers = (matching_refused, accepted, matching_none, matching_some)

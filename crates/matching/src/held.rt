@@ -6,6 +6,19 @@ ghost use Rattle.selector.specs.Matching.{hit_at, far_at};
 use lent::words::word;
 use selector::held::{STEP_WORDS, SUBJECT_WORDS, matches_row};
 
+// A selector of n steps and a path of m places, lent, that keep to their sizes, each subject's ids ascending.
+#[derive(Clone, Copy)]
+pub struct Pairing<'a> {
+    pub steps: &'a [u32],
+    pub n: usize,
+    pub combinators: &'a [u32],
+    pub path: &'a [u32],
+    pub m: usize,
+    ghost steps_few: { n ≤ 8 },
+    ghost places_few: { m ≤ 32 },
+    ghost sorted: { subjects_off path.now m ≡ false },
+}
+
 // Whether step k matches at place i.
 pub fn hits(steps: &[u32], k: usize, path: &[u32], m: usize, i: usize) -> bool
     requires { (k < 8) × (i < m) × (m ≤ 32) × (subjects_off path.now m ≡ false) }

@@ -1,11 +1,10 @@
 // Whether a selector fits a path: `matches_path` of selector.rs.
 #![tactic(auto)]
 
-ghost use Rattle.std.specs.Prelude.{◌≡◌, false, ◌<◌, ◌≤◌, ◌+◌, ◌-◌};
-ghost use Rattle.selector.specs.Checks.{subjects_off};
+ghost use Rattle.std.specs.Prelude.{◌≡◌, ◌<◌, ◌+◌, ◌-◌};
 ghost use Rattle.selector.specs.Matching.{any_from, fits_from, hit_at, far_at, matching_told, matching_of};
 
-use crate::held::{hits, is_far};
+use crate::held::{Pairing, hits, is_far};
 use checks::held::check_path;
 use lent::Refusal;
 
@@ -13,58 +12,42 @@ pub mod held;
 
 // Whether the steps from `step` on, up to the last of n, fit to the end of the m places, with `step` at `place`.
 #[cycle(matches_later_matches_path_from)]
-fn matches_path_from(
-    steps: &[u32],
-    n: usize,
-    combinators: &[u32],
-    path: &[u32],
-    m: usize,
-    step: usize,
-    place: usize,
-) -> bool
-    requires { (step < n) × (n ≤ 8) × (m ≤ 32) × (subjects_off path.now m ≡ false) }
-    ensures { result ≡ fits_from (hit_at steps.now path.now) (far_at combinators.now) m (n - (step + 1)) step place }
+fn matches_path_from(p: Pairing, step: usize, place: usize) -> bool
+    requires { step < p.n }
+    ensures { result ≡ fits_from (hit_at p.entry.steps.now p.entry.path.now) (far_at p.entry.combinators.now) p.entry.m (p.entry.n - (step + 1)) step place }
 {
-    if m <= place {
+    if p.m <= place {
         return false;
     }
-    if !hits(steps, step, path, m, place) {
+    if !hits(p.steps, step, p.path, p.m, place) {
         return false;
     }
     let next = step + 1;
     let after = place + 1;
-    if next < n {
-        if is_far(combinators, step) {
-            matches_later(steps, n, combinators, path, m, next, after)
+    if next < p.n {
+        if is_far(p.combinators, step) {
+            matches_later(p, next, after)
         } else {
-            matches_path_from(steps, n, combinators, path, m, next, after)
+            matches_path_from(p, next, after)
         }
     } else {
-        after == m
+        after == p.m
     }
 }
 
 // Whether they fit with `step` at `from` or a later place.
 #[cycle(matches_later_matches_path_from)]
-fn matches_later(
-    steps: &[u32],
-    n: usize,
-    combinators: &[u32],
-    path: &[u32],
-    m: usize,
-    step: usize,
-    from: usize,
-) -> bool
-    requires { (step < n) × (n ≤ 8) × (m ≤ 32) × (subjects_off path.now m ≡ false) }
-    ensures { result ≡ any_from (fits_from (hit_at steps.now path.now) (far_at combinators.now) m (n - (step + 1)) step) (m - from) from }
+fn matches_later(p: Pairing, step: usize, from: usize) -> bool
+    requires { step < p.n }
+    ensures { result ≡ any_from (fits_from (hit_at p.entry.steps.now p.entry.path.now) (far_at p.entry.combinators.now) p.entry.m (p.entry.n - (step + 1)) step) (p.entry.m - from) from }
 {
-    if m <= from {
+    if p.m <= from {
         return false;
     }
-    if matches_path_from(steps, n, combinators, path, m, step, from) {
+    if matches_path_from(p, step, from) {
         return true;
     }
-    matches_later(steps, n, combinators, path, m, step, from + 1)
+    matches_later(p, step, from + 1)
 }
 
 // Whether the selector of `step_count` step rows fits the path of `path_count` subject rows.
@@ -89,13 +72,12 @@ pub fn matches_path(
     if step_count == 0 {
         return Ok(path_count == 0);
     }
-    Ok(matches_path_from(
+    let p = Pairing {
         steps,
-        step_count,
+        n: step_count,
         combinators,
         path,
-        path_count,
-        0,
-        0,
-    ))
+        m: path_count,
+    };
+    Ok(matches_path_from(p, 0, 0))
 }

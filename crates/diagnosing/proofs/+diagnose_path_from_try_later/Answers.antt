@@ -2,8 +2,8 @@ use Rattle.std.proofs.Common.{rules}
 use Rattle.diagnosing.proofs.+diagnose_path_from_try_later.Goals as goal
 use Rattle.diagnosing.proofs.Judging.{judging}
 
-pub diagnose_path_from-returns-then-m-place : goal.diagnose_path_from-returns-then-m-place
-diagnose_path_from-returns-then-m-place t c = search (judging, rules)
+pub diagnose_path_from-returns-then-p-place : goal.diagnose_path_from-returns-then-p-place
+diagnose_path_from-returns-then-p-place t c = search (judging, rules)
 
 pub diagnose_path_from-returns-then-not-hits : goal.diagnose_path_from-returns-then-not-hits
 diagnose_path_from-returns-then-not-hits t c = search (judging, rules)
@@ -14,14 +14,14 @@ diagnose_path_from-returns-then-is_far t c = search (judging, rules)
 pub diagnose_path_from-returns-else-is_far : goal.diagnose_path_from-returns-else-is_far
 diagnose_path_from-returns-else-is_far t c = search (judging, rules)
 
-pub diagnose_path_from-returns-then-after-m : goal.diagnose_path_from-returns-then-after-m
-diagnose_path_from-returns-then-after-m t c = search (judging, rules)
+pub diagnose_path_from-returns-then-after-p : goal.diagnose_path_from-returns-then-after-p
+diagnose_path_from-returns-then-after-p t c = search (judging, rules)
 
-pub diagnose_path_from-returns-else-after-m : goal.diagnose_path_from-returns-else-after-m
-diagnose_path_from-returns-else-after-m t c = search (judging, rules)
+pub diagnose_path_from-returns-else-after-p : goal.diagnose_path_from-returns-else-after-p
+diagnose_path_from-returns-else-after-p t c = search (judging, rules)
 
-pub try_later-returns-then-m-from : goal.try_later-returns-then-m-from
-try_later-returns-then-m-from t c = search (judging, rules)
+pub try_later-returns-then-p-from : goal.try_later-returns-then-p-from
+try_later-returns-then-p-from t c = search (judging, rules)
 
 pub try_later-returns-in_default : goal.try_later-returns-in_default
 try_later-returns-in_default t c = search (judging, rules)

@@ -14,8 +14,10 @@ returns-then-path_count-eq0 c = search (answers, rules)
 pub returns-then-step_count-eq0 : goal.returns-then-step_count-eq0
 returns-then-step_count-eq0 c = search (answers, rules)
 
-pub diagnose_path_from-requires : goal.diagnose_path_from-requires
-diagnose_path_from-requires c = let a = accepted _ _ _ _ _ _ c.in_ok-check_path.ensures in search rules
+pub invariant_of-p : goal.invariant_of-p
+invariant_of-p c =
+    let a = accepted _ _ _ _ _ _ c.in_ok-check_path.ensures in
+    record { steps_few = a.steps_few; places_few = a.places_few; sorted = a.sorted }
 
 pub returns : goal.returns
 returns c = search (answers, rules)

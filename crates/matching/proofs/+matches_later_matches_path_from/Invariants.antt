@@ -3,7 +3,7 @@ use Rattle.std.proofs.Common.{◌+◌, ◌-◌, ◌*◌}
 use Rattle.matching.proofs.+matches_later_matches_path_from.Given as goal
 
 abbrev pub decreases-matches_later : goal.decreases-matches_later
-decreases-matches_later l = 2 * (l.m - l.from) + 1
+decreases-matches_later l = 2 * (l.p.m - l.from) + 1
 
 abbrev pub decreases-matches_path_from : goal.decreases-matches_path_from
-decreases-matches_path_from l = 2 * (l.m - l.place)
+decreases-matches_path_from l = 2 * (l.p.m - l.place)
