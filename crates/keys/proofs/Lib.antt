@@ -1,2 +1,3 @@
+pub mod Order
 pub mod Reading
 pub mod Sign

@@ -18,14 +18,13 @@ use Rattle.style.specs.Entries.{Entry, look_up}
 use Rattle.sheet.specs.Layout
 use Rattle.sheet.specs.Sheets.{between, entry_at, style_entry_ends, rule_entry_ends, style_at, rule_at}
 use Rattle.sheet.specs.Shape.{sheet_shape}
-use Rattle.keys.specs.declared.CascadeEntryKey.{CascadeEntryKey}
+use Rattle.std.specs.Prelude.{Option as Optional, Some, None}
 use Rattle.winners.specs.declared.Best.{Best}
-use Rattle.winners.specs.declared.Best.TheVariants as best
 use Rattle.winners.specs.declared.Found.{Found}
-use Rattle.winners.specs.declared.Found.TheVariants as found
+use Rattle.winners.specs.declared.Source.TheVariants as source
 use Rattle.winners.specs.Winners.{is_there, entry_of}
 use Rattle.winners.specs.Best.{place_in, is_place, Finds}
-use Rattle.winners.proofs.Reading.{ids, there_is, ids_are, style_ends, rule_ends, style_sorted, rule_sorted}
+use Rattle.winners.proofs.Reading.{ids, there_is, ids_are, style_there, rule_there, style_ends, rule_ends, style_sorted, rule_sorted}
 
 -- ---- looking up
 
@@ -54,22 +53,18 @@ look_at p f s (suc n) h e =
 
 -- ---- the ways out of the search
 
-pub ids_sorted : (w : List ℕ) (base : ℕ) (ends : ℕ → ℕ) (k : ℕ) (pool l : List ℕ) → ascends (list_at ends (drop base w) k) ≡ true → pool ≡ drop base w → l ≡ list_at ends pool k → ascends l ≡ true
-ids_sorted w base ends k pool l s f g = rw (g, f) s
-
 -- the entries of list k of a pool
 abbrev pub listed : List ℕ → ℕ → ℕ → ℕ → ℕ → ℕ → List Entry
 listed w base room first stride k = between (entry_at w base room) (ends_in w first stride) k
 
 module _ (w : List ℕ) (base room first stride k : ℕ)
     (h : base + ends_in w first stride k ≤ length w)
-    (pool l : List ℕ)
-    (f : pool ≡ drop base w)
-    (g : l ≡ list_at (ends_in w first stride) pool k)
+    (l : List ℕ)
+    (g : l ≡ list_at (ends_in w first stride) (drop base w) k)
     (p at : ℕ)
     (r : at ≡ rank p l) where
   list_ids : l ≡ ids (listed w base room first stride k)
-  list_ids = g ∙ ap (λ q. list_at (ends_in w first stride) q k) f ∙ ids_are w base room (ends_in w first stride) k h
+  list_ids = g ∙ ids_are w base room (ends_in w first stride) k h
 
   pub finds_past : length l ≤ at → look_up p (listed w base room first stride k) ≡ none
   finds_past b = look_none p (listed w base room first stride k) (found_out p at l r b ∙ ap (member p) list_ids)
@@ -81,7 +76,7 @@ module _ (w : List ℕ) (base room first stride k : ℕ)
   pub finds_at : at < length l → get_or l at 0 ≡ p → (start from kind number : ℕ) → start ≡ start_of (ends_in w first stride) k → from ≡ start
       → kind ≡ get_or w (base + room + from + at) 0
       → number ≡ get_or w (base + room + from + at + room) 0
-      → Finds (look_up p (listed w base room first stride k)) (found.Entry kind number)
+      → Finds (look_up p (listed w base room first stride k)) (Some (record { kind = kind; number = number }))
   unfolding entry_at
   finds_at b e start from kind number i j m n =
       let s = start_of (ends_in w first stride) k in
@@ -99,23 +94,23 @@ module _ (w : List ℕ) (base room first stride k : ℕ)
 
 -- ---- the winner's entry
 
-module _ (w : List ℕ) (b : Best) (n : ℕ) (key : CascadeEntryKey) where
-  module _ (e : sheet_shape w ≡ true) (h : is_place w (place_in b) ≡ true) where
-    pub style_place : b ≡ best.Style n key → (Layout.STYLE-ENTRY + style_entry_ends w n ≤ length w) × (ascends (list_at (style_entry_ends w) (drop Layout.STYLE-ENTRY w) n) ≡ true)
-    style_place i = let l = ltb-true n (Layout.styles_in w) (rw i at h) in (style_ends w e n l, style_sorted w e n l _ _ refl refl)
+module _ (w : List ℕ) (o : Optional Best) (b : Best) (n : ℕ) (i : o ≡ Some b) where
+  module _ (e : sheet_shape w ≡ true) (h : is_place w (place_in o) ≡ true) where
+    pub style_place : b.source ≡ source.Style n → (Layout.STYLE-ENTRY + style_entry_ends w n ≤ length w) × (ascends (list_at (style_entry_ends w) (drop Layout.STYLE-ENTRY w) n) ≡ true)
+    style_place j = let q = rw i at h in (style_ends w e n (style_there w e b.source q j), style_sorted w e b.source q j refl)
 
-    pub rule_place : b ≡ best.Rule n key → (Layout.ENTRY + rule_entry_ends w n ≤ length w) × (ascends (list_at (rule_entry_ends w) (drop Layout.ENTRY w) n) ≡ true)
-    rule_place i = let l = ltb-true n (Layout.rules_in w) (rw i at h) in (rule_ends w e n l, rule_sorted w e n l _ _ refl refl)
+    pub rule_place : b.source ≡ source.Rule n → (Layout.ENTRY + rule_entry_ends w n ≤ length w) × (ascends (list_at (rule_entry_ends w) (drop Layout.ENTRY w) n) ≡ true)
+    rule_place j = let q = rw i at h in (rule_ends w e n (rule_there w e b.source q j), rule_sorted w e b.source q j refl)
 
-  module _ (p : ℕ) (r : Found) where
-    pub finds_style : b ≡ best.Style n key → Finds (look_up p (between (entry_at w Layout.STYLE-ENTRY Layout.STYLE-ENTRY-ROOM) (style_entry_ends w) n)) r → Finds (entry_of w (place_in b) p) r
+  module _ (p : ℕ) (r : Optional Found) where
+    pub finds_style : b.source ≡ source.Style n → Finds (look_up p (between (entry_at w Layout.STYLE-ENTRY Layout.STYLE-ENTRY-ROOM) (style_entry_ends w) n)) r → Finds (entry_of w (place_in o) p) r
     unfolding entry_of style_at
-    finds_style i f = rw i f
+    finds_style j f = rw (i, j) f
 
-    pub finds_rule : b ≡ best.Rule n key → Finds (look_up p (between (entry_at w Layout.ENTRY Layout.ENTRY-ROOM) (rule_entry_ends w) n)) r → Finds (entry_of w (place_in b) p) r
+    pub finds_rule : b.source ≡ source.Rule n → Finds (look_up p (between (entry_at w Layout.ENTRY Layout.ENTRY-ROOM) (rule_entry_ends w) n)) r → Finds (entry_of w (place_in o) p) r
     unfolding entry_of rule_at
-    finds_rule i f = rw i f
+    finds_rule j f = rw (i, j) f
 
-pub finds_nobody : (w : List ℕ) (b : Best) (p : ℕ) → b ≡ best.Nobody → entry_of w (place_in b) p ≡ none
+pub finds_nobody : (w : List ℕ) (o : Optional Best) (p : ℕ) → o ≡ None → entry_of w (place_in o) p ≡ none
 unfolding entry_of
-finds_nobody w b p i = rw i
+finds_nobody w o p i = rw i

@@ -7,7 +7,9 @@ use Prim.Native.Nat.{ℕ, ◌+◌, ◌-◌, ◌≤◌, ◌<◌}
 use native.Mathlib.Omega.{arith}
 use lib.ListN.{length, get_or, drop}
 use lib.Seq.{drop-drop}
+use mathlib.Core.Option.{some}
 use lib.Dec.{eqb}
+use borrow.Author.Tests.{ltb-true}
 use Rattle.theory.specs.Lists.{ascends, member}
 use Rattle.theory.proofs.Lists.{le_or_lt}
 use Rattle.theory.proofs.Spreads.{map_spread, spread_shift, part_spread}
@@ -17,7 +19,10 @@ use Rattle.sheet.specs.Layout
 use Rattle.sheet.specs.Sheets.{between, entry_at, style_entry_ends, rule_entry_ends, style_at, rule_at}
 use Rattle.sheet.specs.Shape.{sheet_shape}
 use Rattle.sheet.proofs.Shaped.{Shaped, shaped, style_entry_end_within, entry_end_within}
-use Rattle.winners.specs.Winners.{style, rule, is_there, holds_at}
+use Rattle.winners.specs.declared.Source.{Source}
+use Rattle.winners.specs.declared.Source.TheVariants as source
+use Rattle.winners.specs.Best.{place_of, is_place}
+use Rattle.winners.specs.Winners.{is_there, holds_at}
 
 -- ---- looking up
 
@@ -55,24 +60,30 @@ module _ (w : List ℕ) (e : sheet_shape w ≡ true) where
   pub rule_ends : (r : ℕ) → r < Layout.rules_in w → Layout.ENTRY + rule_entry_ends w r ≤ length w
   rule_ends r h = let s = known in omega (arith, s.room, s.entries, entry_end_within s r h)
 
-  -- the list of a source, in the pool that was cut out of the words
-  module _ (d : ℕ) (h : d < Layout.styles_in w) (pool l : List ℕ) (f : pool ≡ drop Layout.STYLE-ENTRY w) (g : l ≡ list_at (style_entry_ends w) pool d) where
-    pub style_sorted : ascends l ≡ true
-    style_sorted = rw (g, f) (known.each_style d h).sorted
+  -- the list of a source: its ids ascend, and tell what the source holds
+  module _ (s : Source) (h : is_place w (some (place_of s)) ≡ true) where
+    pub style_there : {d : ℕ} → s ≡ source.Style d → d < Layout.styles_in w
+    style_there {d} i = ltb-true d (Layout.styles_in w) (rw i at h)
 
-    -- it tells what the source holds
-    pub style_held : (p : ℕ) (b : Bool) → b ≡ member p l → b ≡ holds_at w (style d) p
-    unfolding holds_at style_at
-    style_held p b i =
-        i ∙ rw (g, f, ids_are w Layout.STYLE-ENTRY Layout.STYLE-ENTRY-ROOM (style_entry_ends w) d (style_ends d h))
-        (sym (there_is p (between (entry_at w Layout.STYLE-ENTRY Layout.STYLE-ENTRY-ROOM) (style_entry_ends w) d)))
+    pub rule_there : {r : ℕ} → s ≡ source.Rule r → r < Layout.rules_in w
+    rule_there {r} i = ltb-true r (Layout.rules_in w) (rw i at h)
 
-  module _ (r : ℕ) (h : r < Layout.rules_in w) (pool l : List ℕ) (f : pool ≡ drop Layout.ENTRY w) (g : l ≡ list_at (rule_entry_ends w) pool r) where
-    pub rule_sorted : ascends l ≡ true
-    rule_sorted = rw (g, f) (known.each_rule r h).sorted
+    module _ {d : ℕ} (i : s ≡ source.Style d) {l : List ℕ} (g : l ≡ list_at (style_entry_ends w) (drop Layout.STYLE-ENTRY w) d) where
+      pub style_sorted : ascends l ≡ true
+      style_sorted = rw g (known.each_style d (style_there i)).sorted
 
-    pub rule_held : (p : ℕ) (b : Bool) → b ≡ member p l → b ≡ holds_at w (rule r) p
-    unfolding holds_at rule_at
-    rule_held p b i =
-        i ∙ rw (g, f, ids_are w Layout.ENTRY Layout.ENTRY-ROOM (rule_entry_ends w) r (rule_ends r h))
-        (sym (there_is p (between (entry_at w Layout.ENTRY Layout.ENTRY-ROOM) (rule_entry_ends w) r)))
+      pub style_held : (p : ℕ) {b : Bool} → b ≡ member p l → b ≡ holds_at w (place_of s) p
+      unfolding holds_at style_at
+      style_held p m =
+          m ∙ rw (i, g, ids_are w Layout.STYLE-ENTRY Layout.STYLE-ENTRY-ROOM (style_entry_ends w) d (style_ends d (style_there i)))
+          (sym (there_is p (between (entry_at w Layout.STYLE-ENTRY Layout.STYLE-ENTRY-ROOM) (style_entry_ends w) d)))
+
+    module _ {r : ℕ} (i : s ≡ source.Rule r) {l : List ℕ} (g : l ≡ list_at (rule_entry_ends w) (drop Layout.ENTRY w) r) where
+      pub rule_sorted : ascends l ≡ true
+      rule_sorted = rw g (known.each_rule r (rule_there i)).sorted
+
+      pub rule_held : (p : ℕ) {b : Bool} → b ≡ member p l → b ≡ holds_at w (place_of s) p
+      unfolding holds_at rule_at
+      rule_held p m =
+          m ∙ rw (i, g, ids_are w Layout.ENTRY Layout.ENTRY-ROOM (rule_entry_ends w) r (rule_ends r (rule_there i)))
+          (sym (there_is p (between (entry_at w Layout.ENTRY Layout.ENTRY-ROOM) (rule_entry_ends w) r)))

@@ -36,14 +36,16 @@ module _ (w : List ℕ) (ranking p : ℕ) where
     pub next_unheld : not held ≡ true → Next w ranking p s b b
     next_unheld e l t = rw (winner_snoc (key_at w ranking) (holds_at w) l s p, then_is _ b s t, ← h, not-true held e) t
 
-    module _ (e : not held ≡ false) (k : CascadeEntryKey) (key : key_from k ≡ key_at w ranking s p) (beaten : Bool) (g : beaten ≡ beats_key (key_from k) (key_in b)) where
+    module _ (e : not held ≡ false) (k : CascadeEntryKey) (key : key_from k ≡ key_of ranking (source_at w s)) (beaten : Bool) (g : beaten ≡ beats_key (key_from k) (key_in b)) where
       tested : beaten ≡ beats_key (key_at w ranking s p) (key_in b)
+      unfolding key_at
       tested = rw (← key) g
 
       pub next_less : not beaten ≡ true → Next w ranking p s b b
       next_less f l t = rw (winner_snoc (key_at w ranking) (holds_at w) l s p, then_is _ b s t, ← h, not-false held e, ← tested, not-true beaten f) t
 
       pub next_more : not beaten ≡ false → (c : Optional Best) → place_in c ≡ some s → key_in c ≡ some (key_from k) → Next w ranking p s b c
+      unfolding key_at
       next_more f c i j l t =
           rw (winner_snoc (key_at w ranking) (holds_at w) l s p, then_is _ b s t, ← h, not-false held e, ← tested, not-false beaten f)
           (record { place = i; key = j ∙ ap some key })

@@ -22,12 +22,31 @@ use lent::lists::{Column, start_of};
 use lent::words::{wide, word};
 use sheet::layout;
 
-// Whether list k of the pool that stands at `base` has the property.
-fn holds_in(sheet: &[u32], ends: Column, base: usize, k: u32, property: u32) -> bool
-    requires { ascends (list_at (ends_in sheet.now ends.base ends.stride) (drop base sheet.now) k) ≡ true }
-    ensures { result ≡ member property (list_at (ends_in sheet.now ends.base ends.stride) (drop base sheet.now) k) }
+// Where the entries of a kind of source stand: the column of their lists' ends, the pool, and its room.
+#[derive(Clone, Copy)]
+struct Pool {
+    ends: Column,
+    base: usize,
+    room: usize,
+}
+
+const STYLE_POOL: Pool = Pool {
+    ends: layout::STYLE_ENTRY_ENDS,
+    base: layout::STYLE_ENTRY,
+    room: layout::STYLE_ENTRY_ROOM,
+};
+
+const RULE_POOL: Pool = Pool {
+    ends: layout::RULE_ENTRY_ENDS,
+    base: layout::ENTRY,
+    room: layout::ENTRY_ROOM,
+};
+
+// The properties of list k.
+fn ids_in<'a>(sheet: &'a [u32], pool: Pool, k: u32) -> &'a [u32]
+    ensures { result.now ≡ list_at (ends_in sheet.now pool.ends.base pool.ends.stride) (drop pool.base sheet.now) k }
 {
-    contains(list_of(sheet, ends, rest(sheet, base), k), property)
+    list_of(sheet, pool.ends, rest(sheet, pool.base), k)
 }
 
 fn holds(sheet: &[u32], source: Source, property: u32) -> bool
@@ -35,16 +54,8 @@ fn holds(sheet: &[u32], source: Source, property: u32) -> bool
     ensures { result ≡ holds_at sheet.now (place_of source) property }
 {
     match source {
-        Source::Style(d) => {
-            holds_in(
-                sheet,
-                layout::STYLE_ENTRY_ENDS,
-                layout::STYLE_ENTRY,
-                d,
-                property,
-            )
-        }
-        Source::Rule(r) => holds_in(sheet, layout::RULE_ENTRY_ENDS, layout::ENTRY, r, property),
+        Source::Style(d) => contains(ids_in(sheet, STYLE_POOL, d), property),
+        Source::Rule(r) => contains(ids_in(sheet, RULE_POOL, r), property),
     }
 }
 
@@ -124,20 +135,13 @@ pub fn same(a: Option<Best>, b: Option<Best>) -> bool
     }
 }
 
-// The property's entry in list k of the pool at `base`.
-fn entry_in(
-    sheet: &[u32],
-    ends: Column,
-    base: usize,
-    room: usize,
-    k: u32,
-    property: u32,
-) -> Option<Found>
-    requires base_bound { (base ≤ 100000) × (room ≤ 4096) × (base + ends_in sheet.now ends.base ends.stride k ≤ length sheet.now) }
-    requires k_value { ascends (list_at (ends_in sheet.now ends.base ends.stride) (drop base sheet.now) k) ≡ true }
-    ensures { Finds (look_up property (between (entry_at sheet.now base room) (ends_in sheet.now ends.base ends.stride) k)) result }
+// The property's entry in list k.
+fn entry_in(sheet: &[u32], pool: Pool, k: u32, property: u32) -> Option<Found>
+    requires base_bound { (pool.base ≤ 100000) × (pool.room ≤ 4096) × (pool.base + ends_in sheet.now pool.ends.base pool.ends.stride k ≤ length sheet.now) }
+    requires k_value { ascends (list_at (ends_in sheet.now pool.ends.base pool.ends.stride) (drop pool.base sheet.now) k) ≡ true }
+    ensures { Finds (look_up property (between (entry_at sheet.now pool.base pool.room) (ends_in sheet.now pool.ends.base pool.ends.stride) k)) result }
 {
-    let list = list_of(sheet, ends, rest(sheet, base), k);
+    let list = ids_in(sheet, pool, k);
     let at = lower_bound(list, property);
     if list.len() <= at {
         return None;
@@ -145,10 +149,10 @@ fn entry_in(
     if list[at] != property {
         return None;
     }
-    let e = base + room + wide(start_of(sheet, ends, k)) + at;
+    let e = pool.base + pool.room + wide(start_of(sheet, pool.ends, k)) + at;
     Some(Found {
         kind: word(sheet, e),
-        number: word(sheet, e + room),
+        number: word(sheet, e + pool.room),
     })
 }
 
@@ -158,21 +162,7 @@ pub fn entry(sheet: &[u32], best: Option<Best>, property: u32) -> Option<Found>
     ensures { Finds (entry_of sheet.now (place_in best) property) result }
 {
     match best?.source {
-        Source::Style(d) => entry_in(
-            sheet,
-            layout::STYLE_ENTRY_ENDS,
-            layout::STYLE_ENTRY,
-            layout::STYLE_ENTRY_ROOM,
-            d,
-            property,
-        ),
-        Source::Rule(r) => entry_in(
-            sheet,
-            layout::RULE_ENTRY_ENDS,
-            layout::ENTRY,
-            layout::ENTRY_ROOM,
-            r,
-            property,
-        ),
+        Source::Style(d) => entry_in(sheet, STYLE_POOL, d, property),
+        Source::Rule(r) => entry_in(sheet, RULE_POOL, r, property),
     }
 }
