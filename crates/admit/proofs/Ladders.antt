@@ -8,8 +8,9 @@ use lib.ListN.{length}
 use lib.Dec.{ltb}
 use borrow.Author.Tests.{lt-ltb, le-ltb, not-false}
 use Rattle.lent.specs.All.{all_below}
-use Rattle.lent.specs.Refusals.{Check, check, first_of, checks_below}
-use Rattle.lent.proofs.Refusals.{first_stop, first_go, positive_below, first_hit, first_pass, first_end, first_clear}
+use Rattle.lent.specs.declared.Refusal.{Refusal}
+use Rattle.lent.specs.Refusals.{number_of, Check, check, first_of, checks_below}
+use Rattle.lent.proofs.Refusals.{refusal_number, first_stop, first_go, positive_below, first_hit, first_pass, first_end, first_clear}
 use Rattle.selector.specs.Rows.{selector_of}
 use Rattle.selector.specs.Checks.{row_fits, selector_over}
 use Rattle.style.specs.Checks.{entries_over}
@@ -127,54 +128,54 @@ module _ (w : List ℕ) (origin : ℕ) (properties kinds numbers : List ℕ) (n 
   unfolding style_push_verdict
   style_origin h = origin_hit w origin _ s h
 
-  module _ (o : origin ≤ 7) (b : ℕ) (g : b ≡ first_of (style_size_checks w properties kinds numbers n)) where
+  module _ (o : origin ≤ 7) where
     style_past : (r : ℕ) → r ≡ first_of (style_size_checks w properties kinds numbers n ++ (form_checks properties kinds n ++ index_checks w)) → r ≡ style_push_verdict w origin properties kinds numbers n
     unfolding style_push_verdict
     style_past r e = origin_pass w origin _ s o r e
 
-    pub style_over : (b ≡ 0 → ⊥) → b ≡ style_push_verdict w origin properties kinds numbers n
-    style_over h = style_past b (first_stop (style_size_checks w properties kinds numbers n) _ b g h)
+    pub style_over : (r : Refusal) → number_of r ≡ first_of (style_size_checks w properties kinds numbers n) → number_of r ≡ style_push_verdict w origin properties kinds numbers n
+    style_over r e = style_past (number_of r) (first_stop (style_size_checks w properties kinds numbers n) _ (number_of r) e (refusal_number r))
 
-    module _ (y : b ≡ 0) (c : ℕ) (e : c ≡ first_of (form_checks properties kinds n)) where
-      pub style_form : (c ≡ 0 → ⊥) → c ≡ style_push_verdict w origin properties kinds numbers n
-      style_form h = style_past c (first_go (style_size_checks w properties kinds numbers n) _ b c g y refl (first_stop (form_checks properties kinds n) _ c e h))
+    module _ (y : 0 ≡ first_of (style_size_checks w properties kinds numbers n)) where
+      pub style_form : (r : Refusal) → number_of r ≡ first_of (form_checks properties kinds n) → number_of r ≡ style_push_verdict w origin properties kinds numbers n
+      style_form r e =
+          style_past (number_of r) (first_go (style_size_checks w properties kinds numbers n) _ 0 (number_of r) y refl refl (first_stop (form_checks properties kinds n) _ (number_of r) e (refusal_number r)))
 
-      pub style_index : c ≡ 0 → (r : ℕ) → r ≡ first_of (index_checks w) → r ≡ style_push_verdict w origin properties kinds numbers n
-      style_index x r h = style_past r (first_go (style_size_checks w properties kinds numbers n) _ b r g y refl (first_go (form_checks properties kinds n) _ c r e x refl h))
+      pub style_index : 0 ≡ first_of (form_checks properties kinds n) → (r : ℕ) → r ≡ first_of (index_checks w) → r ≡ style_push_verdict w origin properties kinds numbers n
+      style_index x r h = style_past r (first_go (style_size_checks w properties kinds numbers n) _ 0 r y refl refl (first_go (form_checks properties kinds n) _ 0 r x refl refl h))
 
 -- what the checks of the form ask
-pub style_formable : (s t : Bool) (properties kinds numbers : List ℕ) (n b : ℕ) → b ≡ first_of (check 2 s ∷ check 2 (entries_over properties kinds numbers n) ∷ check 2 t ∷ []) → b ≡ 0
+pub style_formable : (s t : Bool) (properties kinds numbers : List ℕ) (n : ℕ) → 0 ≡ first_of (check 2 s ∷ check 2 (entries_over properties kinds numbers n) ∷ check 2 t ∷ [])
     → (n ≤ 32) × (n ≤ length properties) × (n ≤ length kinds)
-style_formable s t properties kinds numbers n b e z =
-    let (_, r) = first_clear 2 s _ (omega arith) (sym e ∙ z) in
+style_formable s t properties kinds numbers n e =
+    let (_, r) = first_clear 2 s _ (omega arith) (sym e) in
     let c = within properties kinds numbers n _ refl (first_clear 2 (entries_over properties kinds numbers n) _ (omega arith) r).0 in
     (c.few, c.in_properties, c.in_kinds)
 
 -- ---- one rule, likewise
 
-module _ (steps : List ℕ) (n : ℕ) (combinators : List ℕ) (m : ℕ) (properties kinds numbers : List ℕ) (l ids entries a : ℕ)
-    (f : a ≡ first_of (rule_size_checks steps n combinators m properties kinds numbers l ids entries)) where
-  pub rule_over : (a ≡ 0 → ⊥) → a ≡ first_of (one_rule_checks steps n combinators m properties kinds numbers l ids entries)
-  rule_over h = first_stop (rule_size_checks steps n combinators m properties kinds numbers l ids entries) _ a f h
+module _ (steps : List ℕ) (n : ℕ) (combinators : List ℕ) (m : ℕ) (properties kinds numbers : List ℕ) (l ids entries : ℕ) where
+  pub rule_over : (r : Refusal) → number_of r ≡ first_of (rule_size_checks steps n combinators m properties kinds numbers l ids entries)
+      → number_of r ≡ first_of (one_rule_checks steps n combinators m properties kinds numbers l ids entries)
+  rule_over r e = first_stop (rule_size_checks steps n combinators m properties kinds numbers l ids entries) _ (number_of r) e (refusal_number r)
 
-  module _ (z : a ≡ 0) where
+  module _ (f : 0 ≡ first_of (rule_size_checks steps n combinators m properties kinds numbers l ids entries)) where
     pub rule_tied : m ≤ length combinators
-    rule_tied = (rule_sized steps n combinators m properties kinds numbers l ids entries (sym f ∙ z)).selector.in_combinators
+    rule_tied = (rule_sized steps n combinators m properties kinds numbers l ids entries (sym f)).selector.in_combinators
 
     pub rule_formable : (l ≤ 32) × (l ≤ length properties) × (l ≤ length kinds)
     rule_formable =
-        let c = (rule_sized steps n combinators m properties kinds numbers l ids entries (sym f ∙ z)).counted in
+        let c = (rule_sized steps n combinators m properties kinds numbers l ids entries (sym f)).counted in
         (c.few, c.in_properties, c.in_kinds)
 
-    module _ (b : ℕ) (g : b ≡ first_of (rule_form_checks n combinators m)) where
-      rule_past : (r : ℕ) → r ≡ first_of (rule_form_checks n combinators m ++ form_checks properties kinds l) → r ≡ first_of (one_rule_checks steps n combinators m properties kinds numbers l ids entries)
-      rule_past r e = first_go (rule_size_checks steps n combinators m properties kinds numbers l ids entries) _ a r f z refl e
+    rule_past : (r : ℕ) → r ≡ first_of (rule_form_checks n combinators m ++ form_checks properties kinds l) → r ≡ first_of (one_rule_checks steps n combinators m properties kinds numbers l ids entries)
+    rule_past r e = first_go (rule_size_checks steps n combinators m properties kinds numbers l ids entries) _ 0 r f refl refl e
 
-      pub rule_untied : (b ≡ 0 → ⊥) → b ≡ first_of (one_rule_checks steps n combinators m properties kinds numbers l ids entries)
-      rule_untied h = rule_past b (first_stop (rule_form_checks n combinators m) _ b g h)
+    pub rule_untied : (r : Refusal) → number_of r ≡ first_of (rule_form_checks n combinators m) → number_of r ≡ first_of (one_rule_checks steps n combinators m properties kinds numbers l ids entries)
+    rule_untied r e = rule_past (number_of r) (first_stop (rule_form_checks n combinators m) _ (number_of r) e (refusal_number r))
 
-      pub rule_form : b ≡ 0 → (r : ℕ) → r ≡ first_of (form_checks properties kinds l) → r ≡ first_of (one_rule_checks steps n combinators m properties kinds numbers l ids entries)
-      rule_form y r e = rule_past r (first_go (rule_form_checks n combinators m) _ b r g y refl e)
+    pub rule_form : 0 ≡ first_of (rule_form_checks n combinators m) → (r : ℕ) → r ≡ first_of (form_checks properties kinds l) → r ≡ first_of (one_rule_checks steps n combinators m properties kinds numbers l ids entries)
+    rule_form y r e = rule_past r (first_go (rule_form_checks n combinators m) _ 0 r y refl refl e)
 
 -- of lists that are what stands from some place on
 pub rule_from : (steps steps' combinators combinators' properties properties' kinds kinds' numbers numbers' : List ℕ) (n m l ids entries r : ℕ)
@@ -195,21 +196,21 @@ module _ (w : List ℕ) (origin : ℕ) (g : Group) (n : ℕ) (s : sheet_shape w 
     unfolding group_verdict
     group_over h = origin_pass w origin _ s z 2 (first_hit 2 o (rules_over w g.rules n) _ p h)
 
-    module _ (q : o ≡ false) (i₀ i e v : ℕ) (j : i ≡ i₀) (k : i₀ ≡ Layout.ids_in w) (l : e ≡ all_entries_in w) (u : v ≡ first_of (checks_below n (rule_checks i e g))) where
-      each_is : v ≡ first_of (checks_below n (rule_checks (Layout.ids_in w) (all_entries_in w) g))
-      each_is = u ∙ rw (j, k, l)
+    module _ (q : o ≡ false) (i₀ i e : ℕ) (j : i ≡ i₀) (k : i₀ ≡ Layout.ids_in w) (l : e ≡ all_entries_in w) where
+      each_is : (v : ℕ) → v ≡ first_of (checks_below n (rule_checks i e g)) → v ≡ first_of (checks_below n (rule_checks (Layout.ids_in w) (all_entries_in w) g))
+      each_is v u = u ∙ rw (j, k, l)
 
       group_past : (r : ℕ) → r ≡ first_of (checks_below n (rule_checks (Layout.ids_in w) (all_entries_in w) g) ++ index_checks w) → r ≡ group_verdict w origin g n
       unfolding group_verdict
       group_past r h = origin_pass w origin _ s z r (first_pass 2 r o (rules_over w g.rules n) _ p q h)
 
-      pub group_rule : (v ≡ 0 → ⊥) → v ≡ group_verdict w origin g n
-      group_rule h = group_past v (first_stop (checks_below n (rule_checks (Layout.ids_in w) (all_entries_in w) g)) _ v each_is h)
+      pub group_rule : (r : Refusal) → number_of r ≡ first_of (checks_below n (rule_checks i e g)) → number_of r ≡ group_verdict w origin g n
+      group_rule r u = group_past (number_of r) (first_stop (checks_below n (rule_checks (Layout.ids_in w) (all_entries_in w) g)) _ (number_of r) (each_is (number_of r) u) (refusal_number r))
 
-      pub group_index : v ≡ 0 → (r : ℕ) → r ≡ first_of (index_checks w) → r ≡ group_verdict w origin g n
-      group_index y r h =
+      pub group_index : 0 ≡ first_of (checks_below n (rule_checks i e g)) → (r : ℕ) → r ≡ first_of (index_checks w) → r ≡ group_verdict w origin g n
+      group_index u r h =
           let checks = rule_checks (Layout.ids_in w) (all_entries_in w) g in
-          group_past r (first_go (checks_below n checks) _ v r each_is y (positive_below checks (rule_numbers_lem (Layout.ids_in w) (all_entries_in w) g) n) h)
+          group_past r (first_go (checks_below n checks) _ 0 r (each_is 0 u) refl (positive_below checks (rule_numbers_lem (Layout.ids_in w) (all_entries_in w) g) n) h)
 
 -- what its callees ask
 pub group_few : (w : List ℕ) → sheet_shape w ≡ true → (rules : List ℕ) (n : ℕ) (o : Bool) → o ≡ rules_over w rules n → o ≡ false → (i₀ i e : ℕ) → i ≡ i₀ → i₀ ≡ Layout.ids_in w → e ≡ all_entries_in w

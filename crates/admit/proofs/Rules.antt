@@ -9,8 +9,9 @@ use lib.ListN.{drop}
 use Rattle.theory.specs.Lists.{sum_below}
 use Rattle.theory.proofs.Spreads.{sum_next}
 use Rattle.lent.specs.All.{all_below}
-use Rattle.lent.specs.Refusals.{first_of, checks_below}
-use Rattle.lent.proofs.Refusals.{Turns, turns_start, turns_next, turns_fails, turns_done}
+use Rattle.lent.specs.declared.Refusal.{Refusal}
+use Rattle.lent.specs.Refusals.{number_of, first_of, checks_below}
+use Rattle.lent.proofs.Refusals.{refusal_number, Turns, turns_start, turns_next, turns_fails, turns_done}
 use Rattle.selector.specs.Rows.{selector_of}
 use Rattle.selector.specs.Checks.{row_fits}
 use Rattle.sheet.specs.Laying.{ids_held}
@@ -52,19 +53,21 @@ module _ {ids entries : ℕ} {g : Group} {n k p c q t : ℕ} (j : Judging ids en
   pub judging_end : n ≤ k → 0 ≡ first_of (checks_below n (rule_checks ids entries g))
   judging_end h = turns_done j.turns h
 
-  -- its counts were read and widened, and v is its verdict
-  module _ (x₀ x y₀ y z₀ z v : ℕ) (a₀ : x ≡ x₀) (a : x₀ ≡ step_count g k) (b₀ : y ≡ y₀) (b : y₀ ≡ combinator_count g k) (d₀ : z ≡ z₀) (d : z₀ ≡ entry_count g k) (lt : k < n)
-      (s : v ≡ first_of (one_rule_checks (drop (22 * p) g.steps) x (drop c g.combinators) y (drop q g.properties) (drop q g.kinds) (drop q g.numbers) z t (entries + q))) where
-    verdict_is : v ≡ first_of (rule_checks ids entries g k)
+  -- its counts were read and widened
+  module _ (x₀ x y₀ y z₀ z : ℕ) (a₀ : x ≡ x₀) (a : x₀ ≡ step_count g k) (b₀ : y ≡ y₀) (b : y₀ ≡ combinator_count g k) (d₀ : z ≡ z₀) (d : z₀ ≡ entry_count g k) (lt : k < n) where
+    verdict_is : (v : ℕ) → v ≡ first_of (one_rule_checks (drop (22 * p) g.steps) x (drop c g.combinators) y (drop q g.properties) (drop q g.kinds) (drop q g.numbers) z t (entries + q)) → v ≡ first_of (rule_checks ids entries g k)
     unfolding rule_checks
-    verdict_is = rw (a₀, a, b₀, b, d₀, d, j.steps, j.combinators, j.listed, j.held) at s
+    verdict_is v s = rw (a₀, a, b₀, b, d₀, d, j.steps, j.combinators, j.listed, j.held) at s
 
-    pub judging_stop : (v ≡ 0 → ⊥) → v ≡ first_of (checks_below n (rule_checks ids entries g))
-    judging_stop h = turns_fails j.turns v lt verdict_is h
+    -- it is refused
+    pub judging_stop : (r : Refusal) → number_of r ≡ first_of (one_rule_checks (drop (22 * p) g.steps) x (drop c g.combinators) y (drop q g.properties) (drop q g.kinds) (drop q g.numbers) z t (entries + q))
+        → number_of r ≡ first_of (checks_below n (rule_checks ids entries g))
+    judging_stop r s = turns_fails j.turns (number_of r) lt (verdict_is (number_of r) s) (refusal_number r)
 
-    module _ (o : v ≡ 0) where
+    -- or it is not
+    module _ (s : 0 ≡ first_of (one_rule_checks (drop (22 * p) g.steps) x (drop c g.combinators) y (drop q g.properties) (drop q g.kinds) (drop q g.numbers) z t (entries + q))) where
       judged : RuleAccepted ids entries g k
-      judged = rule_accepted ids entries g k (sym verdict_is ∙ o)
+      judged = rule_accepted ids entries g k (sym (verdict_is 0 s))
 
       steps_are : (l : List ℕ) → l ≡ drop (22 * p) g.steps → l ≡ steps_from g k
       steps_are l e = e ∙ rw j.steps
@@ -87,7 +90,7 @@ module _ {ids entries : ℕ} {g : Group} {n k p c q t : ℕ} (j : Judging ids en
           let ties = judged.ties in
           let f = ids_next l e u h in
           record {
-            turns = turns_next j.turns v lt verdict_is o;
+            turns = turns_next j.turns 0 lt (verdict_is 0 s) refl;
             steps = rw (sum_next (step_count g) k, j.steps, a₀, a);
             combinators = rw (sum_next (combinator_count g) k, j.combinators, b₀, b);
             listed = rw (sum_next (entry_count g) k, j.listed, d₀, d);

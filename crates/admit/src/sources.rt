@@ -212,8 +212,7 @@ fn check_rules(
     let mut c = 0;
     let mut q = 0;
     let mut t = ids;
-    let mut k = 0;
-    while k < n {
+    for k in 0..n {
         let i = 3 * k;
         let step_count = wide(word(rules, i));
         let combinator_count = wide(word(rules, i + 1));
@@ -237,7 +236,6 @@ fn check_rules(
         p += step_count;
         c += combinator_count;
         q += entry_count;
-        k += 1;
     }
     Ok(())
 }

@@ -1,12 +1,9 @@
 use borrow.Author.Rules.{rules}
-use Rattle.builder.proofs.Pushes.{passed, group_refused, group_pushed}
+use Rattle.builder.proofs.Pushes.{group_refused, group_pushed}
 use Rattle.builder.proofs.push_rules.Goals as goal
 
-pub returns-then-refusal-ne0 : goal.returns-then-refusal-ne0
-returns-then-refusal-ne0 c = search (group_refused, rules)
-
-pub put_group-requires : goal.put_group-requires
-put_group-requires c = search (passed, rules)
+pub returns-in_err-check_group : goal.returns-in_err-check_group
+returns-in_err-check_group c = search (group_refused, rules)
 
 pub returns : goal.returns
-returns c = search (group_pushed, rules)
+returns c = search (group_pushed, c.in_ok-check_group.ensures, rules)

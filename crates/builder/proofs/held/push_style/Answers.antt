@@ -1,12 +1,9 @@
 use borrow.Author.Rules.{rules}
-use Rattle.builder.proofs.Pushes.{passed, number_refused, number_pushed}
+use Rattle.builder.proofs.Pushes.{number_refused, number_pushed}
 use Rattle.builder.proofs.held.push_style.Goals as goal
 
-pub returns-then-v-ne0 : goal.returns-then-v-ne0
-returns-then-v-ne0 c = search (number_refused, rules)
-
-pub put_style-requires : goal.put_style-requires
-put_style-requires c = search (passed, rules)
+pub returns-in_err-check_style : goal.returns-in_err-check_style
+returns-in_err-check_style c = search (number_refused, rules)
 
 pub returns : goal.returns
-returns c = search (number_pushed, rules)
+returns c = search (number_pushed, c.in_ok-check_style.ensures, rules)

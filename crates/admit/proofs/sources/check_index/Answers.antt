@@ -1,6 +1,6 @@
 use borrow.Author.Rules.{rules}
 use Rattle.admit.proofs.Ladders.{ladder}
-use Rattle.admit.proofs.sources.index_verdict.Goals as goal
+use Rattle.admit.proofs.sources.check_index.Goals as goal
 
 pub returns-then-word-gt65535 : goal.returns-then-word-gt65535
 returns-then-word-gt65535 c = search (ladder, rules) depth 12

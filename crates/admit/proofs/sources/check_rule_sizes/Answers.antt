@@ -1,7 +1,7 @@
 use borrow.Author.Rules.{rules}
 use native.Mathlib.Omega.{arith}
 use Rattle.admit.proofs.Ladders.{ladder, ids_hit, ids_pass, rows_sized, entries_within}
-use Rattle.admit.proofs.sources.rule_sizes.Goals as goal
+use Rattle.admit.proofs.sources.check_rule_sizes.Goals as goal
 
 pub returns-then-selector_over : goal.returns-then-selector_over
 returns-then-selector_over c = search (ladder, rules) depth 12

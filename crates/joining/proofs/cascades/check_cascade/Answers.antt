@@ -1,25 +1,7 @@
 use borrow.Author.Rules.{rules}
 use Rattle.given.specs.Pushing.{cascade_verdict}
 use Rattle.joining.proofs.Refusing.{refusals}
-use Rattle.joining.proofs.cascades.cascade_verdict.Goals as goal
-
--- src/cascades.rt:99:9
-
--- src/cascades.rt:100:9
-
--- src/cascades.rt:102:9
-
--- src/cascades.rt:103:9
-
--- src/cascades.rt:105:8
-
--- src/cascades.rt:106:9
-
--- src/cascades.rt:108:8
-
--- src/cascades.rt:109:9
-
--- src/cascades.rt:96:1
+use Rattle.joining.proofs.cascades.check_cascade.Goals as goal
 
 pub returns-then-not-is_sheet : goal.returns-then-not-is_sheet
 unfolding cascade_verdict

@@ -1,7 +1,7 @@
 use borrow.Author.Rules.{rules}
 use native.Mathlib.Omega.{arith}
 use Rattle.admit.proofs.Ladders.{ladder, entries_within}
-use Rattle.admit.proofs.sources.style_sizes.Goals as goal
+use Rattle.admit.proofs.sources.check_style_sizes.Goals as goal
 
 pub returns-then-word-ge64 : goal.returns-then-word-ge64
 returns-then-word-ge64 c = search (ladder, rules) depth 12

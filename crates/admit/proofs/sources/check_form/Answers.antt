@@ -1,6 +1,6 @@
 use borrow.Author.Rules.{rules}
 use Rattle.admit.proofs.Ladders.{ladder}
-use Rattle.admit.proofs.sources.form_verdict.Goals as goal
+use Rattle.admit.proofs.sources.check_form.Goals as goal
 
 pub returns-then-kinds_over : goal.returns-then-kinds_over
 returns-then-kinds_over c = search (ladder, rules) depth 12
