@@ -23,8 +23,10 @@ use Rattle.sheet.specs.Layout
 use Rattle.sheet.specs.Sheets.{Style, Rule, Source, sources_of, key_of, rule_at, style_at, sheet_of}
 use Rattle.sheet.specs.Shape.{sheet_shape}
 use Rattle.sheet.specs.Laying.{emptied}
-use Rattle.reading.specs.Reading.{StepRead}
-use Rattle.reading.specs.declared.StepAnswer.{StepAnswer}
+use Rattle.std.specs.Prelude.{Result, Option}
+use Rattle.lent.specs.declared.Refusal.{Refusal}
+use Rattle.steps.specs.declared.SelectorStep.{SelectorStep}
+use Rattle.reading.specs.Reading.{step_of, StepRead}
 use Rattle.sheet.proofs.Shaped.{shaped}
 use Rattle.reading.proofs.Readers.{step_of_rule}
 use Rattle.weighed.proofs.Saturation.{rule_never_saturates}
@@ -168,7 +170,7 @@ read_back_lem w origin g n u e k h =
 
 -- so that a step which `rule_step` finds there asks for what the given row asks for, "sorted and made unique"
 pub step_back : (w : List ℕ) (origin : ℕ) (g : Group) (n : ℕ) → Halves g.properties → group_verdict w origin g n ≡ 0 → (k : ℕ) → k < n → (i : ℕ) → i < step_count g k
-    → (a : StepAnswer) → StepRead (pushed_group w origin g n) (Layout.rules_in w + k) i a → step_tags a.step ≡ as_sets (row_at 8 (steps_from g k) (22 * i))
+    → (a : Result (Option SelectorStep) Refusal) → StepRead (pushed_group w origin g n) (Layout.rules_in w + k) i a → step_tags (step_of a) ≡ as_sets (row_at 8 (steps_from g k) (22 * i))
 step_back w origin g n u e k h i l a read =
     let w' = pushed_group w origin g n in
     let r : ℕ = Layout.rules_in w + k in
