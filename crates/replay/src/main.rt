@@ -42,10 +42,7 @@ fn answer(kind: u32, body: &[u32], out: &mut [u8], used: usize) -> usize
 }
 
 fn is_known(kind: u32) -> bool {
-    if kind < 1 {
-        return false;
-    }
-    kind <= 7
+    matches!(kind, 1..=7)
 }
 
 // The line of one case; `input` is its body.
@@ -67,28 +64,25 @@ fn cut(out: &mut [u8], used: usize) {
     screen::send(out, end, 0);
 }
 
-// The cases of the first n bytes. Lines are laid into `out`, and written before they can run past its end.
-fn answer_all(input: &[u8], n: usize, out: &mut [u8])
-    requires { n ≤ length input.now }
-{
+// The cases of the input. Lines are laid into `out`, and written before they can run past its end.
+fn answer_all(input: &[u8], out: &mut [u8]) {
     let mut used = 0;
-    let mut at = 0;
-    while at < n {
-        let left = n - at;
-        if left < 8 {
+    let mut rest = input;
+    while !rest.is_empty() {
+        if rest.len() < 8 {
             cut(out, used);
             return;
         }
-        let size = lent::words::wide(lines::word(input, at + 4));
-        if (left - 8) / 4 < size {
+        let (head, after) = rest.split_at(8);
+        let size = lent::words::wide(lines::word(head, 4));
+        if after.len() / 4 < size {
             cut(out, used);
             return;
         }
-        let body = at + 8;
-        let end = body + size * 4;
-        used = answer_bytes(lines::word(input, at), &input[body..end], out, used);
+        let (body, next) = after.split_at(size * 4);
+        used = answer_bytes(lines::word(head, 0), body, out, used);
         used = screen::send(out, used, 16384);
-        at = end;
+        rest = next;
     }
     screen::send(out, used, 0);
 }
@@ -100,7 +94,7 @@ fn batch(input: &mut [u8; 524289], out: &mut [u8; 65536]) {
         io::write_all(STDOUT_FILENO, b"over 512 KiB\n");
         return;
     }
-    answer_all(input, n, out);
+    answer_all(&input[..n], out);
 }
 
 fn main() {

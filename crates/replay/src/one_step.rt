@@ -1,38 +1,38 @@
 // The cases of one step and one subject, both by value: matching, weights, and the owned subject.
-use crate::say::{numbers, wide};
+use crate::say::numbers;
 use lent::Refusal;
 use lines::text;
-use owned::{SelectorInputsOwned, Verdict};
+use owned::SelectorInputsOwned;
 use screen::labelled;
-use selector::{Matching, Weighing};
+use selector::Specificity;
 use steps::SelectorStep;
 use typed::SelectorInputs;
 
 fn refused(out: &mut [u8], at: usize, refusal: Refusal) -> usize {
-    labelled(out, at, b" refused ", wide(refusal.number()))
+    labelled(out, at, b" refused ", u64::from(refusal.number()))
 }
 
-fn matching(out: &mut [u8], at: usize, fits: Matching) -> usize {
+fn matching(out: &mut [u8], at: usize, fits: Result<bool, Refusal>) -> usize {
     match fits {
-        Matching::Yes => text(out, at, b" yes"),
-        Matching::No => text(out, at, b" no"),
-        Matching::Refused(refusal) => refused(out, at, refusal),
+        Ok(true) => text(out, at, b" yes"),
+        Ok(false) => text(out, at, b" no"),
+        Err(refusal) => refused(out, at, refusal),
     }
 }
 
 // The four counts of ranking 0, or the refusal.
-fn weight(out: &mut [u8], at: usize, weighing: Weighing) -> usize {
+fn weight(out: &mut [u8], at: usize, weighing: Result<Specificity, Refusal>) -> usize {
     match weighing {
-        Weighing::Weighs(s) => numbers(out, at, &[s.0, s.1, s.2, s.3]),
-        Weighing::Refused(refusal) => refused(out, at, refusal),
+        Ok(s) => numbers(out, at, &[s.0, s.1, s.2, s.3]),
+        Err(refusal) => refused(out, at, refusal),
     }
 }
 
 // The two counts of ranking 1; nothing more where it is refused, as ranking 0 was then.
-fn weight3(out: &mut [u8], at: usize, weighing: Weighing) -> usize {
+fn weight3(out: &mut [u8], at: usize, weighing: Result<Specificity, Refusal>) -> usize {
     match weighing {
-        Weighing::Weighs(s) => numbers(out, at, &[s.0, s.1]),
-        Weighing::Refused(_) => at,
+        Ok(s) => numbers(out, at, &[s.0, s.1]),
+        Err(_) => at,
     }
 }
 
@@ -49,28 +49,20 @@ fn subject_of(body: &[u32]) -> SelectorInputs {
 }
 
 // The subject with the ids of `x` sorted and made unique.
-fn owned(x: SelectorInputs) -> SelectorInputsOwned {
-    let type_tag = x.type_tag;
-    let part_tag = x.part_tag;
-    let classes = x.classes;
-    let pseudos = x.pseudos;
+fn owned(x: SelectorInputs) -> Result<SelectorInputsOwned, Refusal> {
     SelectorInputsOwned::with_part(
-        type_tag,
-        part_tag,
-        classes,
+        x.type_tag,
+        x.part_tag,
+        x.classes,
         x.class_count,
-        pseudos,
+        x.pseudos,
         x.pseudo_count,
     )
 }
 
 // Whether the owned subject matches the step, or why there is none.
-fn matches_owned(step: SelectorStep, subject: SelectorInputsOwned) -> Matching {
-    let verdict = subject.verdict;
-    match verdict {
-        Verdict::Accepted => step.matches(subject.inputs),
-        Verdict::Refused(refusal) => Matching::Refused(refusal),
-    }
+fn matches_owned(step: SelectorStep, subject: SelectorInputs) -> Result<bool, Refusal> {
+    step.matches(owned(subject)?.inputs)
 }
 
 // ` w`, and the step's weight in both rankings.
@@ -83,7 +75,7 @@ fn weights(out: &mut [u8], at: usize, step: SelectorStep) -> usize {
 // ` owned`, and whether the subject with its ids sorted and made unique matches.
 fn owned_match(out: &mut [u8], at: usize, step: SelectorStep, subject: SelectorInputs) -> usize {
     let used = text(out, at, b" owned");
-    matching(out, used, matches_owned(step, owned(subject)))
+    matching(out, used, matches_owned(step, subject))
 }
 
 // `step yes w 0 2 0 1 2 1 owned yes`

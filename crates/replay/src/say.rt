@@ -2,17 +2,11 @@
 use lines::text;
 use screen::labelled;
 
-pub(crate) fn wide(x: u32) -> u64 {
-    x as u64
-}
-
 // Each with a space before it.
 pub(crate) fn numbers(out: &mut [u8], at: usize, list: &[u32]) -> usize {
     let mut used = at;
-    let mut i = 0;
-    while i < list.len() {
-        used = labelled(out, used, b" ", wide(list[i]));
-        i += 1;
+    for x in list {
+        used = labelled(out, used, b" ", u64::from(*x));
     }
     used
 }

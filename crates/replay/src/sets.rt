@@ -80,17 +80,10 @@ fn pair(out: &mut [u8], at: usize, first: PropertyId, second: PropertyId) -> usi
 }
 
 pub(crate) fn properties(body: &[u32], out: &mut [u8], at: usize) -> usize {
-    let a = word(body, 0);
-    let b = word(body, 1);
-    if a < 65536 {
-        if b < 65536 {
-            return pair(
-                out,
-                at,
-                PropertyId::new(a as u16),
-                PropertyId::new(b as u16),
-            );
-        }
-    }
-    text(out, at, b"refused\n")
+    let first = u16::try_from(word(body, 0));
+    let second = u16::try_from(word(body, 1));
+    let (Ok(a), Ok(b)) = (first, second) else {
+        return text(out, at, b"refused\n");
+    };
+    pair(out, at, PropertyId::new(a), PropertyId::new(b))
 }
