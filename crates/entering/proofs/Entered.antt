@@ -105,7 +105,12 @@ module _ (w h s c m tr row : List ℕ) (p : ℕ) where
   -- a cached transition
   pub entered_cached : (k child : ℕ) → Some k ≡ linked (cached h s tr p (row_at 16 row 0)) → child ≡ child_at tr k → Enters w (table h s c m tr) p row (Some child) (table h s c m tr)
   unfolding lacks_room child_of entered
-  entered_cached k child e f = let l = linked_some _ k e in record { answer = rw (l, f); memory = rw l }
+  entered_cached k child e f =
+      let link = cached h s tr p (row_at 16 row 0) in
+      let l : link ≡ suc k = linked_some _ k e in
+      let n = ne_eqb link 0 (omega arith) in
+      let m : link - 1 ≡ k = omega arith in
+      record { answer = rw (n, m, f); memory = rw n }
 
   module _ (e : None ≡ linked (cached h s tr p (row_at 16 row 0))) (r : Option ℕ) (h' s' c' m' : List ℕ)
       (u : (t : List ℕ) → Settles (table h s c m t) (next_state w (table h s c m t) p (row_at 16 row 0)) r (table h' s' c' m' t)) where
@@ -125,9 +130,9 @@ module _ (w h s c m tr row : List ℕ) (p : ℕ) where
         record { answer = rw (lacks, o, linked_none _ e, q); memory = rw (lacks, o, linked_none _ e, ← held, ← q) (k c' m') }
 
     -- or none, and nothing written
-    pub entered_none : r ≡ None → Enters w (table h s c m tr) p row None (table h' s' c' m' tr)
-    entered_none f =
+    pub entered_none : r ≡ None → (out : Option ℕ) → out ≡ None → Enters w (table h s c m tr) p row out (table h' s' c' m' tr)
+    entered_none f out g =
         let t = table h s c m tr in
         let x = next_state w t p (row_at 16 row 0) in
         let o = told_none (state_lacks_room t x) (number_in t x) (sym f ∙ (u tr).answer) in
-        record { answer = rw (lacks, o); memory = rw (lacks, o) (rw o at (u tr).memory) }
+        record { answer = rw (g, lacks, o); memory = rw (lacks, o) (rw o at (u tr).memory) }

@@ -1,8 +1,8 @@
 -- Entering with its refusals, by each way through the code. Assumes nothing.
-use mathlib.Core.Path.{◌≡◌, refl, sym, ◌∙◌}
-use mathlib.Core.Bool.{Bool, true, false, not, cond}
+use mathlib.Core.Path.{◌≡◌, refl, sym, ap, ◌∙◌}
+use mathlib.Core.Bool.{Bool, true, false, not}
 use mathlib.Core.List.{List, [], ◌∷◌}
-use Prim.Native.Nat.{ℕ, ◌<◌}
+use Prim.Native.Nat.{ℕ, ◌+◌, ◌<◌}
 use native.Mathlib.Omega.{arith}
 use lib.Dec.{eqb}
 use borrow.Author.Tests.{ne_eqb, ltb-true, not-true, not-false}
@@ -17,9 +17,30 @@ use Rattle.table.specs.Tables.{Table, table, states_in, stamp_in}
 use Rattle.table.specs.Shape.{table_shape}
 use Rattle.table.specs.Entering.{lacks_room, child_of}
 use Rattle.table.specs.Calls.{broken, not_a_state, state_checks, subject_checks, state_verdict, enter_verdict}
-use Rattle.std.specs.Prelude.{Option, Some, None, Ok, Err}
-use Rattle.entering.specs.Answers.{Enter, Enters, front_verdict}
+use Rattle.std.specs.Prelude.{Option, Some, None, Result, Ok, Err, ok_or}
+use Rattle.matcher.specs.declared.MatchState.{MatchState}
+use Rattle.entering.specs.Answers.{entering_told, Enter, Enters, front_verdict}
 use Rattle.entering.proofs.Entered.{told_at, told_none}
+
+-- ---- the number where there is room, or else the refusal
+
+room_told : Result ℕ Refusal → ℕ
+room_told (Ok k) = k + 1
+room_told (Err x) = 0
+
+room_there : (r : Option ℕ) (k : ℕ) → Ok k ≡ ok_or r Refusal.NoRoom → r ≡ Some k
+unfolding room_told
+room_there (Some a) k e = let q : k + 1 ≡ a + 1 = ap room_told e in ap Some (omega arith)
+room_there None k e = let q : k + 1 ≡ 0 = ap room_told e in absurd (omega arith)
+
+refusal_in : Result ℕ Refusal → Refusal
+refusal_in (Ok k) = Refusal.NoRoom
+refusal_in (Err x) = x
+
+room_lacking : (r : Option ℕ) (x : Refusal) → Err x ≡ ok_or r Refusal.NoRoom → (r ≡ None) × (x ≡ Refusal.NoRoom)
+unfolding room_told refusal_in
+room_lacking (Some a) x e = let q : 0 ≡ a + 1 = ap room_told e in absurd (omega arith)
+room_lacking None x e = (refl, ap refusal_in e)
 
 module _ (w : List ℕ) (t : Table) (number stamp : ℕ) where
   -- ---- the first four refusals: of the state, then of the row
@@ -60,8 +81,10 @@ module _ (w : List ℕ) (t : Table) (number stamp : ℕ) where
       unfolding front_verdict enter_verdict
       refused_told l = refused_first _ x l refl stopped
 
-      pub refused_same : (t' : Table) → t ≡ cond (eqb (enter_verdict w t number stamp given) 0) t' t
-      refused_same t' = rw (← stopped, ne_eqb (number_of x) 0 (refusal_number x))
+      pub enter_refused : (r : Result MatchState Refusal)
+          → entering_told r ≡ answered (enter_verdict w t number stamp given) (0 ∷ child_of w t number given ∷ stamp ∷ [])
+          → Enter w t number stamp given r t
+      enter_refused r f = record { answer = f; memory = rw (← stopped, ne_eqb (number_of x) 0 (refusal_number x)) }
 
     module _ (e : 0 ≡ front_verdict w t number stamp row) (given : List ℕ) (q : row ≡ given) where
       -- the last refusal
@@ -70,19 +93,20 @@ module _ (w : List ℕ) (t : Table) (number stamp : ℕ) where
       last r f = rw (← q) (first_go _ (check 5 (lacks_room w t number row) ∷ []) 0 r e refl refl f)
 
       module _ (r : Option ℕ) (t' : Table) (u : Enters w t number row r t') where
-        pub enter_entered : (k : ℕ) → r ≡ Some k → Enter w t number stamp given (Ok (record { number = k; stamp = stamp })) t'
+        pub enter_entered : (k : ℕ) → Ok k ≡ ok_or r Refusal.NoRoom → Enter w t number stamp given (Ok (record { number = k; stamp = stamp })) t'
         unfolding first_of
         enter_entered k f =
-            let (o, p) = told_at (lacks_room w t number row) (child_of w t number row) k (sym f ∙ u.answer) in
+            let (o, p) = told_at (lacks_room w t number row) (child_of w t number row) k (sym (room_there r k f) ∙ u.answer) in
             let n = last 0 (rw o) in
             record { answer = rw (← n, ← q, p); memory = rw (← n, ← q) (rw o at u.memory) }
 
-        pub enter_full : r ≡ None → Enter w t number stamp given (Err Refusal.NoRoom) t'
+        pub enter_full : (x : Refusal) → Err x ≡ ok_or r Refusal.NoRoom → (out : Result MatchState Refusal) → entering_told out ≡ told x → Enter w t number stamp given out t'
         unfolding first_of
-        enter_full f =
-            let o = told_none (lacks_room w t number row) (child_of w t number row) (sym f ∙ u.answer) in
+        enter_full x f out g =
+            let (none, full) = room_lacking r x f in
+            let o = told_none (lacks_room w t number row) (child_of w t number row) (sym none ∙ u.answer) in
             let n = last 5 (rw o) in
-            record { answer = rw (← n); memory = rw (← n) (rw o at u.memory) }
+            record { answer = rw (← n) (g ∙ ap told full); memory = rw (← n) (rw o at u.memory) }
 
 pub ruleset fronts = (front_state, front_over, front_unsorted, front_fine, not-true, not-false)
 

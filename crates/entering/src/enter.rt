@@ -59,7 +59,7 @@ pub fn enter_subject(
         parent,
         &row,
     )?;
-    let settled = held::enter_subject(
+    let number = held::enter_subject(
         sheet,
         head,
         states,
@@ -68,10 +68,8 @@ pub fn enter_subject(
         transitions,
         parent.number,
         &row,
-    );
-    let Some(number) = settled else {
-        return Err(Refusal::NoRoom);
-    };
+    )
+    .ok_or(Refusal::NoRoom)?;
     Ok(MatchState {
         number,
         stamp: parent.stamp,

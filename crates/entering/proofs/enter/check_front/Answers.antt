@@ -2,7 +2,7 @@ use borrow.Author.Rules.{rules}
 use Rattle.entering.proofs.Fronts.{fronts}
 use Rattle.entering.proofs.enter.check_front.Goals as goal
 
-pub returns-in_err-check_state : goal.returns-then-v-ne0
+pub returns-in_err-check_state : goal.returns-in_err-check_state
 returns-in_err-check_state c = search (fronts, rules)
 
 pub returns-then-not-row_fits : goal.returns-then-not-row_fits
