@@ -1,8 +1,8 @@
 // `RuleCursor` of matcher.rs: a place in a list of matched rules, which yields their numbers one after the other.
 #![tactic(auto)]
 
-ghost use Rattle.std.specs.Prelude.{◌≡◌};
-ghost use Rattle.std.specs.Iterator.{YieldsFirst, item_count};
+ghost use Rattle.std.specs.Prelude.{◌≡◌, ⊤};
+ghost use Rattle.std.specs.Iterator.{YieldsFirst, MakesProgress, item_count};
 ghost use Rattle.cursor.specs.Yielding.{next_told, next_of, index_after, rules_left};
 
 #[derive(Clone, Copy, Debug)]
@@ -74,7 +74,9 @@ impl<'a> Iterator for RuleCursor<'a> {
     ghost remaining = { item_count rules_left };
 
     fn next(&mut self) -> Option<u32>
-        ensures { (next_told result ≡ next_of self.old.rules.now self.old.index) × (self.new.rules ≡ self.old.rules) × (self.new.index ≡ index_after self.old.rules.now self.old.index) }
+        ensures told { (next_told result ≡ next_of self.old.rules.now self.old.index) × (self.new.rules ≡ self.old.rules) × (self.new.index ≡ index_after self.old.rules.now self.old.index) }
+        ensures steps { YieldsFirst rules_left self.old result self.new }
+        ensures goes { MakesProgress (λ _. ⊤) (item_count rules_left) self.old result self.new }
     {
         let rule = rule_at(self.rules, self.index);
         self.index = index_after(self.rules, self.index);

@@ -24,7 +24,7 @@ use Rattle.winners.specs.declared.Found.{Found}
 use Rattle.winners.specs.declared.Source.TheVariants as source
 use Rattle.winners.specs.Winners.{is_there, entry_of}
 use Rattle.winners.specs.Best.{place_in, is_place, Finds}
-use Rattle.winners.proofs.Reading.{ids, there_is, ids_are, style_there, rule_there, style_ends, rule_ends, style_sorted, rule_sorted}
+use Rattle.winners.proofs.Reading.{ids, there_is, ids_are, style_there, rule_there, style_ends, rule_ends, style_ascends, rule_ascends}
 
 -- ---- looking up
 
@@ -97,10 +97,10 @@ module _ (w : List ℕ) (base room first stride k : ℕ)
 module _ (w : List ℕ) (o : Optional Best) (b : Best) (n : ℕ) (i : o ≡ Some b) where
   module _ (e : sheet_shape w ≡ true) (h : is_place w (place_in o) ≡ true) where
     pub style_place : b.source ≡ source.Style n → (Layout.STYLE-ENTRY + style_entry_ends w n ≤ length w) × (ascends (list_at (style_entry_ends w) (drop Layout.STYLE-ENTRY w) n) ≡ true)
-    style_place j = let q = rw i at h in (style_ends w e n (style_there w e b.source q j), style_sorted w e b.source q j refl)
+    style_place j = let q = rw i at h in (style_ends w e n (style_there w e b.source q j), style_ascends w e b.source q j)
 
     pub rule_place : b.source ≡ source.Rule n → (Layout.ENTRY + rule_entry_ends w n ≤ length w) × (ascends (list_at (rule_entry_ends w) (drop Layout.ENTRY w) n) ≡ true)
-    rule_place j = let q = rw i at h in (rule_ends w e n (rule_there w e b.source q j), rule_sorted w e b.source q j refl)
+    rule_place j = let q = rw i at h in (rule_ends w e n (rule_there w e b.source q j), rule_ascends w e b.source q j)
 
   module _ (p : ℕ) (r : Optional Found) where
     pub finds_style : b.source ≡ source.Style n → Finds (look_up p (between (entry_at w Layout.STYLE-ENTRY Layout.STYLE-ENTRY-ROOM) (style_entry_ends w) n)) r → Finds (entry_of w (place_in o) p) r

@@ -68,9 +68,15 @@ module _ (w : List ℕ) (e : sheet_shape w ≡ true) where
     pub rule_there : {r : ℕ} → s ≡ source.Rule r → r < Layout.rules_in w
     rule_there {r} i = ltb-true r (Layout.rules_in w) (rw i at h)
 
+    pub style_ascends : {d : ℕ} → s ≡ source.Style d → ascends (list_at (style_entry_ends w) (drop Layout.STYLE-ENTRY w) d) ≡ true
+    style_ascends {d} i = (known.each_style d (style_there i)).sorted
+
+    pub rule_ascends : {r : ℕ} → s ≡ source.Rule r → ascends (list_at (rule_entry_ends w) (drop Layout.ENTRY w) r) ≡ true
+    rule_ascends {r} i = (known.each_rule r (rule_there i)).sorted
+
     module _ {d : ℕ} (i : s ≡ source.Style d) {l : List ℕ} (g : l ≡ list_at (style_entry_ends w) (drop Layout.STYLE-ENTRY w) d) where
       pub style_sorted : ascends l ≡ true
-      style_sorted = rw g (known.each_style d (style_there i)).sorted
+      style_sorted = rw g (style_ascends i)
 
       pub style_held : (p : ℕ) {b : Bool} → b ≡ member p l → b ≡ holds_at w (place_of s) p
       unfolding holds_at style_at
@@ -80,7 +86,7 @@ module _ (w : List ℕ) (e : sheet_shape w ≡ true) where
 
     module _ {r : ℕ} (i : s ≡ source.Rule r) {l : List ℕ} (g : l ≡ list_at (rule_entry_ends w) (drop Layout.ENTRY w) r) where
       pub rule_sorted : ascends l ≡ true
-      rule_sorted = rw g (known.each_rule r (rule_there i)).sorted
+      rule_sorted = rw g (rule_ascends i)
 
       pub rule_held : (p : ℕ) {b : Bool} → b ≡ member p l → b ≡ holds_at w (place_of s) p
       unfolding holds_at rule_at
