@@ -22,49 +22,44 @@ fn rows(section: &[u8], into: &mut [u32]) -> usize
     lines::words(&section[8..], into)
 }
 
-// Whether the selector fits the path, and what is found of it.
-fn path_lines(
-    steps: &[u32],
+// A case: the rows that are lent, and the counts that are given.
+#[derive(Clone, Copy)]
+struct Given<'a> {
+    steps: &'a [u32],
     step_count: usize,
-    combinators: &[u32],
+    combinators: &'a [u32],
     combinator_count: usize,
-    path: &[u32],
+    path: &'a [u32],
     path_count: usize,
-    out: &mut [u8],
-    at: usize,
-) -> usize {
+}
+
+// Whether the selector fits the path, and what is found of it.
+fn path_lines(g: Given, out: &mut [u8], at: usize) -> usize {
     let fits = matches_path(
-        steps,
-        step_count,
-        combinators,
-        combinator_count,
-        path,
-        path_count,
+        g.steps,
+        g.step_count,
+        g.combinators,
+        g.combinator_count,
+        g.path,
+        g.path_count,
     );
     let used = say::matching(out, at, fits);
     let found = diagnose_path(
-        steps,
-        step_count,
-        combinators,
-        combinator_count,
-        path,
-        path_count,
+        g.steps,
+        g.step_count,
+        g.combinators,
+        g.combinator_count,
+        g.path,
+        g.path_count,
     );
     say::diagnosis(out, used, found)
 }
 
 // The selector's weight in both rankings.
-fn weight_lines(
-    steps: &[u32],
-    step_count: usize,
-    combinators: &[u32],
-    combinator_count: usize,
-    out: &mut [u8],
-    at: usize,
-) -> usize {
-    let first = specificity(steps, step_count, combinators, combinator_count);
+fn weight_lines(g: Given, out: &mut [u8], at: usize) -> usize {
+    let first = specificity(g.steps, g.step_count, g.combinators, g.combinator_count);
     let used = say::weight(out, at, first);
-    let second = level3_specificity(steps, step_count, combinators, combinator_count);
+    let second = level3_specificity(g.steps, g.step_count, g.combinators, g.combinator_count);
     say::weight3(out, used, second)
 }
 
@@ -76,17 +71,14 @@ pub(crate) fn answer(steps: &[u8], codes: &[u8], path: &[u8], out: &mut [u8], at
     let a = rows(steps, &mut step_rows);
     let b = rows(codes, &mut combinators);
     let c = rows(path, &mut subjects);
-    let n = count(steps);
-    let m = count(codes);
-    let used = path_lines(
-        &step_rows[..a],
-        n,
-        &combinators[..b],
-        m,
-        &subjects[..c],
-        count(path),
-        out,
-        at,
-    );
-    weight_lines(&step_rows[..a], n, &combinators[..b], m, out, used)
+    let given = Given {
+        steps: &step_rows[..a],
+        step_count: count(steps),
+        combinators: &combinators[..b],
+        combinator_count: count(codes),
+        path: &subjects[..c],
+        path_count: count(path),
+    };
+    let used = path_lines(given, out, at);
+    weight_lines(given, out, used)
 }

@@ -17,7 +17,7 @@ use section::Case;
 // The case that begins at `at`. Where it is not whole it is moved to the front, and more is read; no bytes if it is not whole then.
 fn find(input: &mut [u8; 131072], at: usize, have: usize) -> Case
     requires { (at ≤ have) × (have ≤ 131072) }
-    ensures { (result.from ≤ result.steps) × (result.steps ≤ result.codes) × (result.codes ≤ result.path) × (result.path ≤ result.have) × (result.have ≤ 131072) }
+    ensures { result.have ≤ 131072 }
 {
     let case = section::first_case(input, at, have);
     if case.from < case.path {
@@ -29,16 +29,12 @@ fn find(input: &mut [u8; 131072], at: usize, have: usize) -> Case
 
 // Answers a case; how much of the buffer is used then.
 fn answer_bytes(input: &[u8], case: Case, out: &mut [u8], at: usize) -> usize
-    requires { (case.from ≤ case.steps) × (case.steps ≤ case.codes) × (case.codes ≤ case.path) × (case.path ≤ length input.now) }
+    requires { case.have ≤ length input.now }
 {
-    let from = case.from;
-    let steps = case.steps;
-    let codes = case.codes;
-    let path = case.path;
     let used = answer::answer(
-        &input[from..steps],
-        &input[steps..codes],
-        &input[codes..path],
+        &input[case.from..case.steps],
+        &input[case.steps..case.codes],
+        &input[case.codes..case.path],
         out,
         at,
     );
@@ -46,7 +42,7 @@ fn answer_bytes(input: &[u8], case: Case, out: &mut [u8], at: usize) -> usize
 }
 
 fn answer_case(input: &[u8; 131072], case: Case, out: &mut [u8; 65536], at: usize) -> usize
-    requires { (case.from ≤ case.steps) × (case.steps ≤ case.codes) × (case.codes ≤ case.path) × (case.path ≤ 131072) }
+    requires { case.have ≤ 131072 }
 {
     answer_bytes(input, case, out, at)
 }
@@ -66,20 +62,18 @@ fn last(input: &[u8; 131072], have: usize, out: &mut [u8; 65536], used: usize)
     last_line(input, have, out);
 }
 
-// A proved loop has to end, and nothing says that the input does: the turns are counted down, from a number that no run uses up.
+// A proved loop has to end, and nothing says that the input does: the turns are counted, up to a number that no run reaches.
 fn main() {
     let mut input = [0u8; 131072];
     let mut out = [0u8; 65536];
     let mut used = 0;
-    let mut case = section::NONE;
-    let mut turns = u64::MAX;
-    while turns > 0 {
+    let mut case = section::nothing(0, 0);
+    for _ in 0..u64::MAX {
         case = find(&mut input, case.path, case.have);
         if case.path <= case.from {
             last(&input, case.have, &mut out, used);
             return;
         }
         used = answer_case(&input, case, &mut out, used);
-        turns -= 1;
     }
 }

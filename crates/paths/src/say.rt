@@ -2,22 +2,18 @@
 use lent::Refusal;
 use lines::text;
 use screen::labelled;
-use selector::{Diagnosis, Matching, Specificity, Weighing};
-
-fn wide(x: u32) -> u64 {
-    x as u64
-}
+use selector::{SelectorMismatch, Specificity};
 
 fn refused(out: &mut [u8], at: usize, refusal: Refusal) -> usize {
-    let used = labelled(out, at, b"refused ", wide(refusal.number()));
+    let used = labelled(out, at, b"refused ", u64::from(refusal.number()));
     text(out, used, b"\n")
 }
 
-pub(crate) fn matching(out: &mut [u8], at: usize, fits: Matching) -> usize {
+pub(crate) fn matching(out: &mut [u8], at: usize, fits: Result<bool, Refusal>) -> usize {
     match fits {
-        Matching::Yes => text(out, at, b"match yes\n"),
-        Matching::No => text(out, at, b"match no\n"),
-        Matching::Refused(refusal) => refused(out, at, refusal),
+        Ok(true) => text(out, at, b"match yes\n"),
+        Ok(false) => text(out, at, b"match no\n"),
+        Err(refusal) => refused(out, at, refusal),
     }
 }
 
@@ -29,58 +25,63 @@ fn found(out: &mut [u8], at: usize, name: &[u8], first: usize, second: usize) ->
     text(out, then, b"\n")
 }
 
-pub(crate) fn diagnosis(out: &mut [u8], at: usize, answer: Diagnosis) -> usize {
-    match answer {
-        Diagnosis::Fits => text(out, at, b"diagnosis fits\n"),
-        Diagnosis::EmptySelectorWithNonEmptyPath => {
+fn mismatch(out: &mut [u8], at: usize, mismatch: SelectorMismatch) -> usize {
+    match mismatch {
+        SelectorMismatch::EmptySelectorWithNonEmptyPath => {
             text(out, at, b"diagnosis EmptySelectorWithNonEmptyPath\n")
         }
-        Diagnosis::MissingSubject {
+        SelectorMismatch::MissingSubject {
             step_index,
             path_index,
         } => found(out, at, b"MissingSubject ", step_index, path_index),
-        Diagnosis::StepMismatch {
+        SelectorMismatch::StepMismatch {
             step_index,
             path_index,
         } => found(out, at, b"StepMismatch ", step_index, path_index),
-        Diagnosis::TrailingSubjects {
+        SelectorMismatch::TrailingSubjects {
             step_count,
             path_index,
         } => found(out, at, b"TrailingSubjects ", step_count, path_index),
-        Diagnosis::MissingDescendant {
+        SelectorMismatch::MissingDescendant {
             step_index,
             after_path_index,
         } => found(out, at, b"MissingDescendant ", step_index, after_path_index),
-        Diagnosis::Refused(refusal) => refused(out, at, refusal),
     }
+}
+
+pub(crate) fn diagnosis(
+    out: &mut [u8],
+    at: usize,
+    answer: Result<Result<(), SelectorMismatch>, Refusal>,
+) -> usize {
+    match answer {
+        Ok(Ok(())) => text(out, at, b"diagnosis fits\n"),
+        Ok(Err(why)) => mismatch(out, at, why),
+        Err(refusal) => refused(out, at, refusal),
+    }
+}
+
+// A name, and the numbers after it.
+fn numbers(out: &mut [u8], at: usize, name: &[u8], list: &[u32]) -> usize {
+    let mut used = text(out, at, name);
+    for n in list {
+        used = labelled(out, used, b" ", u64::from(*n));
+    }
+    text(out, used, b"\n")
 }
 
 // `weight0` and the four counts of ranking 0, or the refusal.
-pub(crate) fn weight(out: &mut [u8], at: usize, weighing: Weighing) -> usize {
+pub(crate) fn weight(out: &mut [u8], at: usize, weighing: Result<Specificity, Refusal>) -> usize {
     match weighing {
-        Weighing::Weighs(s) => four(out, at, s),
-        Weighing::Refused(refusal) => refused(out, at, refusal),
+        Ok(s) => numbers(out, at, b"weight0", &[s.0, s.1, s.2, s.3]),
+        Err(refusal) => refused(out, at, refusal),
     }
-}
-
-fn four(out: &mut [u8], at: usize, s: Specificity) -> usize {
-    let a = labelled(out, at, b"weight0 ", wide(s.0));
-    let b = labelled(out, a, b" ", wide(s.1));
-    let c = labelled(out, b, b" ", wide(s.2));
-    let d = labelled(out, c, b" ", wide(s.3));
-    text(out, d, b"\n")
 }
 
 // `weight1` and the two counts of ranking 1; nothing more where it is refused, as ranking 0 was then.
-pub(crate) fn weight3(out: &mut [u8], at: usize, weighing: Weighing) -> usize {
+pub(crate) fn weight3(out: &mut [u8], at: usize, weighing: Result<Specificity, Refusal>) -> usize {
     match weighing {
-        Weighing::Weighs(s) => two(out, at, s),
-        Weighing::Refused(_) => at,
+        Ok(s) => numbers(out, at, b"weight1", &[s.0, s.1]),
+        Err(_) => at,
     }
-}
-
-fn two(out: &mut [u8], at: usize, s: Specificity) -> usize {
-    let a = labelled(out, at, b"weight1 ", wide(s.0));
-    let b = labelled(out, a, b" ", wide(s.1));
-    text(out, b, b"\n")
 }

@@ -62,34 +62,27 @@ pub(crate) struct Case {
     pub(crate) codes: usize,
     pub(crate) path: usize,
     pub(crate) have: usize,
+    ghost ordered: { (from ≤ steps) × (steps ≤ codes) × (codes ≤ path) × (path ≤ have) },
 }
 
-// Before the first.
-pub(crate) const NONE: Case = Case {
-    from: 0,
-    steps: 0,
-    codes: 0,
-    path: 0,
-    have: 0,
-};
-
-// No bytes.
-fn nothing(at: usize, have: usize) -> Case
-    ensures { (result.from ≡ at) × (result.steps ≡ at) × (result.codes ≡ at) × (result.path ≡ at) × (result.have ≡ have) }
+// No bytes: before the first case, and where none is whole.
+pub(crate) fn nothing(at: usize, have: usize) -> Case
+    requires { at ≤ have }
+    ensures { result.have ≡ have }
 {
     Case {
         from: at,
         steps: at,
         codes: at,
         path: at,
-        have: have,
+        have,
     }
 }
 
 // The case that begins at `at` of the bytes; no bytes where it is not whole.
 fn within(bytes: &[u8], at: usize) -> Case
     requires { at ≤ length bytes.now }
-    ensures { (result.from ≤ result.steps) × (result.steps ≤ result.codes) × (result.codes ≤ result.path) × (result.path ≤ result.have) × (result.have ≡ length bytes.now) }
+    ensures { result.have ≡ length bytes.now }
 {
     let have = bytes.len();
     let steps = end(bytes, at, STEP_BYTES);
@@ -106,17 +99,17 @@ fn within(bytes: &[u8], at: usize) -> Case
     }
     Case {
         from: at,
-        steps: steps,
-        codes: codes,
-        path: path,
-        have: have,
+        steps,
+        codes,
+        path,
+        have,
     }
 }
 
 // The same of the first `have` bytes.
 pub(crate) fn first_case(input: &[u8], at: usize, have: usize) -> Case
     requires { (at ≤ have) × (have ≤ length input.now) }
-    ensures { (result.from ≤ result.steps) × (result.steps ≤ result.codes) × (result.codes ≤ result.path) × (result.path ≤ result.have) × (result.have ≤ length input.now) }
+    ensures { result.have ≡ have }
 {
     within(&input[..have], at)
 }
