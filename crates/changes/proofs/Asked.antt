@@ -9,6 +9,8 @@ use Prim.Native.Nat.{ℕ, suc, ◌+◌, ◌-◌, ◌≤◌, ◌<◌}
 use native.Mathlib.Omega.{arith}
 use lib.ListN.{length, get_or, drop}
 use lib.Dec.{T}
+use borrow.Author.Tests.{lt-ltb}
+use Rattle.std.specs.Prelude.{Option}
 use Rattle.theory.specs.Lists.{◌∈◌, member, spread}
 use Rattle.theory.specs.Sizes
 use Rattle.theory.specs.Cascade.{same_key, changed}
@@ -24,6 +26,7 @@ use Rattle.laid.proofs.Held.{spread_in}
 use Rattle.winners.specs.Winners.{Place, style, rule, holds_at, key_at, places_for, AreRules, winner_of, winning_key_of}
 use Rattle.winners.specs.Best.{Stands, key_in}
 use Rattle.winners.specs.declared.Best.{Best}
+use Rattle.winners.specs.declared.Source.TheVariants as source
 use Rattle.winners.proofs.Reading.{ids, ids_are, rule_ends, rule_held}
 use Rattle.changes.specs.Changes.{changed_of}
 use Rattle.changes.specs.Within.{properties_of, properties_without}
@@ -55,7 +58,7 @@ asked_in w old new p =
     Iff.trans (sort_in (a ++ b) p) (append_in a b p)
 
 -- whether the winning key differs, by the two winners
-pub differs_is : (w old new : List ℕ) (ranking p : ℕ) (a c : Best) (b : Bool) → Stands w ranking p (winner_of w ranking old p) a → Stands w ranking p (winner_of w ranking new p) c
+pub differs_is : (w old new : List ℕ) (ranking p : ℕ) (a c : Option Best) (b : Bool) → Stands w ranking p (winner_of w ranking old p) a → Stands w ranking p (winner_of w ranking new p) c
     → b ≡ same_key (key_in a) (key_in c) → not b ≡ differing w ranking old new p
 differs_is w old new ranking p a c b s t e = rw (s.key, t.key) at (ap not e)
 
@@ -76,7 +79,7 @@ module _ (w : List ℕ) (shape : sheet_shape w ≡ true) where
       by r i e false q =
           let below = each_in (λ c. c < rules_in w) old are r i in
           let g : T (holds_at w (rule r) p) = rw e h in
-          let t : member p (properties_of w r) ≡ true = rule_held w shape r below (drop ENTRY w) (properties_of w r) refl refl p (member p (properties_of w r)) refl ∙ (T-is (holds_at w (rule r) p)).0 g in
+          let t : member p (properties_of w r) ≡ true = rule_held w shape (source.Rule r) (lt-ltb r (rules_in w) below) refl refl p refl ∙ (T-is (holds_at w (rule r) p)).0 g in
           absurd (out ((without_in w old new p).1 (r, i, q, (member_is p (properties_of w r)).0 t)))
 
   -- a property of no such rule keeps its winning key
