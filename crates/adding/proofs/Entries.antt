@@ -9,6 +9,9 @@ use lib.Dec.{eqb, ltb}
 use mir.Syntax.{w32, w64}
 use mir.Val.{Fits}
 use borrow.Author.Tests.{lt-ltb, le-ltb, ltb-true, ltb-false, ne_eqb, not-false}
+use Rattle.std.specs.Prelude.{Result, Ok, Err}
+use Rattle.lent.specs.declared.Refusal.{Refusal}
+use Rattle.lent.specs.declared.Refusal.TheVariants.{OverSize, BadRecord}
 use Rattle.lent.specs.Refusals.{check, first_of}
 use Rattle.lent.proofs.Refusals.{first_hit, first_pass, first_end, first_clear}
 use Rattle.sheet.specs.Shape.{sheet_shape}
@@ -16,10 +19,9 @@ use Rattle.sheet.proofs.Shaped.{shaped}
 use Rattle.given.specs.Given.{Group, given}
 use Rattle.given.specs.Pushing.{all_entries_in}
 use Rattle.gather.specs.declared.Filled.{Filled}
-use Rattle.gather.specs.declared.Taken.{Taken}
 use Rattle.gather.specs.Opened.{ids_given, one_more, entries_given, with_entry}
 use Rattle.gather.specs.Making.{is_direct, group_of, in_rule, last_entries, entry_faults}
-use Rattle.gather.specs.Memory.{open_of, Sound, Adds}
+use Rattle.gather.specs.Memory.{open_of, Sound, Adds, kind_in, origin_in}
 use Rattle.gather.proofs.Filling.{one_grown, last, last_in, last_kept, take_more}
 use Rattle.gather.proofs.Opening.{open_nothing, open_direct, open_group, kinds, adds_refused, adds_accepted, rules_counted, entries_counted}
 
@@ -59,23 +61,23 @@ module _ (w : List ℕ) (f : Filled) (r s c p k n : List ℕ) (h : Sound f (give
   -- ---- whether a style is open, and how many entries it has
 
   abbrev styled : Bool
-  styled = eqb f.kind 1 || (eqb f.kind 2 && ltb 0 f.rules)
+  styled = eqb (kind_in f.opening) 1 || (eqb (kind_in f.opening) 2 && ltb 0 f.rules)
 
   abbrev counted : ℕ
-  counted = cond (eqb f.kind 1) f.entries (get_or r (3 * f.rules - 3 + 2) 0)
+  counted = cond (eqb (kind_in f.opening) 1) f.entries (get_or r (3 * f.rules - 3 + 2) 0)
 
   styled_is : styled ≡ (is_direct (open_of f lent) || in_rule (open_of f lent))
   styled_is =
-      kinds f.kind h.kind
+      kinds f.opening
       (λ e. rw (open_nothing f lent e, e))
       (λ e. rw (open_direct f lent e, e))
       (λ e. rw (open_group f lent e, e, rules_counted f lent h))
 
-  styles : {B : Type 0} → styled ≡ true → (f.kind ≡ 1 → B) → (f.kind ≡ 2 → 1 ≤ f.rules → B) → B
+  styles : {B : Type 0} → styled ≡ true → (kind_in f.opening ≡ 1 → B) → (kind_in f.opening ≡ 2 → 1 ≤ f.rules → B) → B
   styles x a b =
-      kinds f.kind h.kind (λ e. absurd (true≢false (sym (rw e at x)))) a (λ e. b e (ltb-true 0 f.rules (rw e at x)))
+      kinds f.opening (λ e. absurd (true≢false (sym (rw e at x)))) a (λ e. b e (ltb-true 0 f.rules (rw e at x)))
 
-  last_is : f.kind ≡ 2 → 1 ≤ f.rules → last_entries (open_of f lent) ≡ get_or r (3 * f.rules - 3 + 2) 0
+  last_is : kind_in f.opening ≡ 2 → 1 ≤ f.rules → last_entries (open_of f lent) ≡ get_or r (3 * f.rules - 3 + 2) 0
   last_is e u = rw (open_group f lent e) (last_in r f.rules 2 (omega (arith, h.room.rules, h.rules)) u (omega arith))
 
   entries_is : styled ≡ true → last_entries (open_of f lent) ≡ counted
@@ -87,11 +89,11 @@ module _ (w : List ℕ) (f : Filled) (r s c p k n : List ℕ) (h : Sound f (give
   -- ---- refused
 
   module _ (b : Bool) (q : b ≡ styled) where
-    module _ (t : Taken) where
-      pub entry_outside : b ≡ false → t ≡ record { verdict = 10; filled = f }
+    module _ (t : Result Filled Refusal) where
+      pub entry_outside : b ≡ false → t ≡ Err (BadRecord 0)
           → Adds (first_of (entry_faults w (open_of f lent) kind)) f lent (with_entry property kind number (open_of f lent)) t lent
       entry_outside x e =
-          adds_refused h (first_hit 10 true (not (is_direct (open_of f lent) || in_rule (open_of f lent))) _ (rw (sym styled_is, sym q, x)) refl) (omega arith) e
+          adds_refused h (first_hit 10 true (not (is_direct (open_of f lent) || in_rule (open_of f lent))) _ (rw (sym styled_is, sym q, x)) refl) e refl
 
     module _ (y : b ≡ true) where
       x : styled ≡ true
@@ -103,27 +105,27 @@ module _ (w : List ℕ) (f : Filled) (r s c p k n : List ℕ) (h : Sound f (give
       limits a d g v i j l o =
           first_pass 10 v false (not (is_direct (open_of f lent) || in_rule (open_of f lent))) _ (rw (sym styled_is, x)) refl (rw (entries_is x, sum_is x, i, j, l) o)
 
-      module _ (t : Taken) where
-        pub entry_kind : 3 < kind → t ≡ record { verdict = 10; filled = f }
+      module _ (t : Result Filled Refusal) where
+        pub entry_kind : 3 < kind → t ≡ Err (BadRecord 0)
             → Adds (first_of (entry_faults w (open_of f lent) kind)) f lent (with_entry property kind number (open_of f lent)) t lent
-        entry_kind l e = adds_refused h (limits true _ _ 10 (lt-ltb 3 kind l) refl refl (first_hit 10 true true _ refl refl)) (omega arith) e
+        entry_kind l e = adds_refused h (limits true _ _ 10 (lt-ltb 3 kind l) refl refl (first_hit 10 true true _ refl refl)) e refl
 
       module _ (l : kind ≤ 3) (m : ℕ) (o : m ≡ counted) where
-        pub entry_over : (t : Taken) → 32 ≤ m → t ≡ record { verdict = 2; filled = f }
+        pub entry_over : (t : Result Filled Refusal) → 32 ≤ m → t ≡ Err OverSize
             → Adds (first_of (entry_faults w (open_of f lent) kind)) f lent (with_entry property kind number (open_of f lent)) t lent
         entry_over t g e =
             adds_refused h
             (limits false true _ 2 (le-ltb 3 kind l) (lt-ltb 32 (counted + 1) (omega arith)) refl (first_pass 10 2 false false _ refl refl (first_hit 2 true true _ refl refl)))
-            (omega arith) e
+            e refl
 
         module _ (g : m < 32) (a : ℕ) (z : a ≡ all_entries_in w) where
-          pub entry_sheet_over : (t : Taken) → 4096 ≤ a + f.entries → t ≡ record { verdict = 2; filled = f }
+          pub entry_sheet_over : (t : Result Filled Refusal) → 4096 ≤ a + f.entries → t ≡ Err OverSize
               → Adds (first_of (entry_faults w (open_of f lent) kind)) f lent (with_entry property kind number (open_of f lent)) t lent
           entry_sheet_over t d e =
               adds_refused h
               (limits false false true 2 (le-ltb 3 kind l) (le-ltb 32 (counted + 1) (omega arith)) (lt-ltb 4096 (all_entries_in w + f.entries + 1) (omega arith))
               (first_pass 10 2 false false _ refl refl (first_pass 2 2 false false _ refl refl (first_hit 2 true true _ refl refl))))
-              (omega arith) e
+              e refl
 
           entry_fits : a + f.entries < 4096 → first_of (entry_faults w (open_of f lent) kind) ≡ 0
           entry_fits d =
@@ -135,7 +137,7 @@ module _ (w : List ℕ) (f : Filled) (r s c p k n : List ℕ) (h : Sound f (give
               → Sound f lent × (((property < 65536) × (kind ≤ 3) × (f.entries < 4096)) × (first_of (entry_faults w (open_of f lent) kind) ≡ 0))
           entry_asked i d = (h, ((i, l, omega arith), entry_fits d))
 
-  pub style_asked : (b : Bool) → b ≡ styled → b ≡ true → (f.rules ≤ 256) × ((f.kind ≡ 1 → ⊥) → 1 ≤ f.rules)
+  pub style_asked : (b : Bool) → b ≡ styled → b ≡ true → (f.rules ≤ 256) × ((kind_in f.opening ≡ 1 → ⊥) → 1 ≤ f.rules)
   style_asked b q y = (h.rules, λ d. styles (sym q ∙ y) (λ e. absurd (d e)) (λ e u. u))
 
   pub sum_fits : sheet_shape w ≡ true → (a : ℕ) → a ≡ all_entries_in w → Fits w64 (a + f.entries)
@@ -153,12 +155,12 @@ module _ (w : List ℕ) (f : Filled) (r s c p k n : List ℕ) (h : Sound f (give
         let x = (first_clear 10 (ltb 3 kind) _ (omega arith) y).1 in
         ltb-false 32 (last_entries (open_of f lent) + 1) (first_clear 2 (ltb 32 (last_entries (open_of f lent) + 1)) _ (omega arith) x).0
 
-    pub count_asked : (f.rules ≤ 256) × (f.kind ≡ 2 → (1 ≤ f.rules) × (get_or r (3 * f.rules - 3 + 2) 0 ≤ 4096))
+    pub count_asked : (f.rules ≤ 256) × (kind_in f.opening ≡ 2 → (1 ≤ f.rules) × (get_or r (3 * f.rules - 3 + 2) 0 ≤ 4096))
     count_asked = (h.rules, λ e. styles passed (λ d. absurd (omega arith)) (λ d u. (u, omega (arith, under, last_is e u))))
 
     module _ (l : f.entries < 4096) where
       abbrev grown : Filled
-      grown = record { kind = f.kind; origin = f.origin; rules = f.rules; steps = f.steps; combinators = f.combinators; entries = f.entries + 1; ids = f.ids }
+      grown = record { opening = f.opening; rules = f.rules; steps = f.steps; combinators = f.combinators; entries = f.entries + 1; ids = f.ids }
 
       abbrev lent' : List ℕ → Group
       lent' r' = given r' s c (set p f.entries property) (set k f.entries kind) (set n f.entries number)
@@ -175,7 +177,6 @@ module _ (w : List ℕ) (f : Filled) (r s c p k n : List ℕ) (h : Sound f (give
           kinds = length-set k f.entries kind ∙ h.room.kinds;
           numbers = length-set n f.entries number ∙ h.room.numbers;
         };
-        kind = h.kind;
         rules = h.rules;
         steps = rw x h.steps;
         last_steps = rw x h.last_steps;
@@ -197,14 +198,14 @@ module _ (w : List ℕ) (f : Filled) (r s c p k n : List ℕ) (h : Sound f (give
       one_number : take (f.entries + 1) (set n f.entries number) ≡ take f.entries n ++ number ∷ []
       one_number = one_grown n f.entries number (omega (arith, h.room.numbers))
 
-      module _ (t : Taken) (q : t ≡ record { verdict = 0; filled = grown }) where
-        entry_direct : f.kind ≡ 1 → Adds (first_of (entry_faults w (open_of f lent) kind)) f lent (with_entry property kind number (open_of f lent)) t (lent' r)
+      module _ (t : Result Filled Refusal) (q : t ≡ Ok grown) where
+        entry_direct : kind_in f.opening ≡ 1 → Adds (first_of (entry_faults w (open_of f lent) kind)) f lent (with_entry property kind number (open_of f lent)) t (lent' r)
         unfolding with_entry
         entry_direct e =
             adds_accepted (entry_sound r h.room.rules refl refl) (sym z)
             (rw (open_direct grown (lent' r) e, open_direct f lent e, one_property, one_kind, one_number)) q
 
-        entry_rule : f.kind ≡ 2 → 1 ≤ f.rules
+        entry_rule : kind_in f.opening ≡ 2 → 1 ≤ f.rules
             → Adds (first_of (entry_faults w (open_of f lent) kind)) f lent (with_entry property kind number (open_of f lent)) t
             (lent' (set r (3 * f.rules - 3 + 2) (get_or r (3 * f.rules - 3 + 2) 0 + 1)))
         unfolding with_entry
@@ -219,7 +220,7 @@ module _ (w : List ℕ) (f : Filled) (r s c p k n : List ℕ) (h : Sound f (give
             (rw (open_group grown (lent' r') e, open_group f lent e, a, one_property, one_kind, one_number)) q
 
         pub entry_added : (r' k' n' : List ℕ) (v : ℕ)
-            → r' ≡ cond (eqb f.kind 2) (set r (3 * f.rules - 3 + 2) (get_or r (3 * f.rules - 3 + 2) 0 + 1)) r
+            → r' ≡ cond (eqb (kind_in f.opening) 2) (set r (3 * f.rules - 3 + 2) (get_or r (3 * f.rules - 3 + 2) 0 + 1)) r
             → v ≡ property
             → k' ≡ set k f.entries kind
             → n' ≡ set n f.entries number

@@ -21,16 +21,18 @@ use Rattle.sheet.specs.Laying.{ids_held}
 use Rattle.records.specs.Rows.{tag_place, count_place, with_tag, with_id, with_item, item_over}
 use Rattle.records.proofs.Rows.{room_left, item_length}
 use Rattle.lent.specs.All.{all_below}
+use Rattle.std.specs.Prelude.{Result, Ok, Err}
+use Rattle.lent.specs.declared.Refusal.{Refusal}
+use Rattle.lent.specs.declared.Refusal.TheVariants.{OverSize, BadRecord}
 use Rattle.lent.specs.Refusals.{first_of}
 use Rattle.lent.proofs.Refusals.{first_hit, first_pass, first_end}
 use Rattle.sheet.specs.Layout.{ids_in}
 use Rattle.given.specs.Given.{Group, given}
 use Rattle.given.specs.Leaves.{Ids}
 use Rattle.gather.specs.declared.Filled.{Filled}
-use Rattle.gather.specs.declared.Taken.{Taken}
 use Rattle.gather.specs.Opened.{group, rule_count, last_of, last_row, ids_given, with_requirement}
 use Rattle.gather.specs.Making.{group_of, in_step, in_group, requirement_faults}
-use Rattle.gather.specs.Memory.{filled_of, open_of, Sound, Adds}
+use Rattle.gather.specs.Memory.{filled_of, open_of, Sound, Adds, kind_in, origin_in}
 use Rattle.gather.proofs.Opening.{open_nothing, open_direct, open_group, kinds, adds_refused, adds_accepted, rules_counted, steps_room}
 use Rattle.gather.proofs.Filling.{last_in}
 use Rattle.gather.proofs.Ids.{drop_take, row_alone, fits_classes, fits_pseudos, row_fits_lem, fits_same, fits_read, ids_same, ids_next, row_before}
@@ -218,18 +220,18 @@ module _ (f : Filled) (m : Group) (s : Sound f m) where
     | no h ↦ rw (le-ltb 0 f.rules (omega arith))
   ]
 
-  pub step_tested : (b : Bool) → b ≡ (eqb f.kind 2 && (ltb 0 f.rules && ltb 0 (get_or m.rules (3 * f.rules - 3) 0))) → b ≡ in_step (open_of f m)
-  step_tested b e = e ∙ kinds f.kind s.kind
-      (λ k. rw (open_nothing f m k, eqb_is f.kind 0 k))
-      (λ k. rw (open_direct f m k, eqb_is f.kind 1 k))
-      (λ k. rw (open_group f m k, rules_counted f m s, eqb_is f.kind 2 k) rule_tested)
+  pub step_tested : (b : Bool) → b ≡ (eqb (kind_in f.opening) 2 && (ltb 0 f.rules && ltb 0 (get_or m.rules (3 * f.rules - 3) 0))) → b ≡ in_step (open_of f m)
+  step_tested b e = e ∙ kinds f.opening
+      (λ k. rw (open_nothing f m k, eqb_is (kind_in f.opening) 0 k))
+      (λ k. rw (open_direct f m k, eqb_is (kind_in f.opening) 1 k))
+      (λ k. rw (open_group f m k, rules_counted f m s, eqb_is (kind_in f.opening) 2 k) rule_tested)
     where
       eqb_is : (k n : ℕ) → k ≡ n → eqb k 2 ≡ eqb n 2
       eqb_is k n e = rw e
 
   module _ (i : in_step (open_of f m) ≡ true) where
-    pub step_kind : f.kind ≡ 2
-    step_kind = kinds f.kind s.kind
+    pub step_kind : kind_in f.opening ≡ 2
+    step_kind = kinds f.opening
         (λ k. absurd (true≢false (sym i ∙ rw (open_nothing f m k))))
         (λ k. absurd (true≢false (sym i ∙ rw (open_direct f m k))))
         (λ k. k)
@@ -268,16 +270,16 @@ module _ (f : Filled) (m : Group) (s : Sound f m) where
       pub ids_less : (a : ℕ) → Ids row 1 a → a ≤ f.ids
       ids_less a p = omega (arith, p.same, ids_filled, ids_within m.steps f.steps (steps_room f m s) step_there row row_size s.rows row_sound row (sym e))
 
-      module _ (w : List ℕ) (which id : ℕ) (k : which ≤ 3) (r : Taken) where
+      module _ (w : List ℕ) (which id : ℕ) (k : which ≤ 3) (r : Result Filled Refusal) where
         -- over its size
-        pub item_refused : item_over 8 which row ≡ true → r ≡ record { verdict = 2; filled = f }
+        pub item_refused : item_over 8 which row ≡ true → r ≡ Err OverSize
             → Adds (first_of (requirement_faults w (open_of f m) which id)) f m (in_group (with_requirement which id) (open_of f m)) r m
         item_refused o t =
             adds_refused s
             (first_pass 10 2 (not (in_step (open_of f m))) _ _ refl (rw i)
             (first_pass 10 2 (ltb 3 which) _ _ refl (le-ltb 3 which k)
             (first_hit 2 (item_over 8 which row) _ _ (rw (open_group f m step_kind, row_last)) o)))
-            (omega arith) t
+            t refl
 
       module _ (which id : ℕ) (o : item_over 8 which row ≡ false) (x : List ℕ) (put : x ≡ with_item 8 which id row) where
         put_sound : row_fits 8 x 0 ≡ true
@@ -320,12 +322,12 @@ module _ (f : Filled) (m : Group) (s : Sound f m) where
           pub ids_asked : f.ids - a + b ≡ ids_given (with_requirement which id (filled_of f m))
           ids_asked = ids_sum ∙ ap ids_given changed_is
 
-          module _ (w : List ℕ) (k : which ≤ 3) (r : Taken) (u : ℕ) (v : u ≡ ids_in w) where
+          module _ (w : List ℕ) (k : which ≤ 3) (r : Result Filled Refusal) (u : ℕ) (v : u ≡ ids_in w) where
             last_test : ltb 8192 (u + (f.ids - a + b)) ≡ ltb 8192 (ids_in w + ids_given (with_requirement which id (group_of (open_of f m))))
             last_test = rw (v, ids_asked, open_group f m step_kind)
 
             -- too many ids
-            pub ids_refused : 8192 < u + (f.ids - a + b) → r ≡ record { verdict = 2; filled = f }
+            pub ids_refused : 8192 < u + (f.ids - a + b) → r ≡ Err OverSize
                 → Adds (first_of (requirement_faults w (open_of f m) which id)) f m (in_group (with_requirement which id) (open_of f m)) r m
             ids_refused h t =
                 adds_refused s
@@ -333,10 +335,10 @@ module _ (f : Filled) (m : Group) (s : Sound f m) where
                 (first_pass 10 2 (ltb 3 which) _ _ refl (le-ltb 3 which k)
                 (first_pass 2 2 (item_over 8 which row) _ _ (rw (open_group f m step_kind, row_last)) o
                 (first_hit 2 (ltb 8192 (u + (f.ids - a + b))) _ _ last_test (lt-ltb 8192 (u + (f.ids - a + b)) h)))))
-                (omega arith) t
+                t refl
 
             abbrev counted : Filled
-            counted = record { kind = f.kind; origin = f.origin; rules = f.rules; steps = f.steps; combinators = f.combinators; entries = f.entries; ids = f.ids - a + b }
+            counted = record { opening = f.opening; rules = f.rules; steps = f.steps; combinators = f.combinators; entries = f.entries; ids = f.ids - a + b }
 
             changed_sound : u + (f.ids - a + b) ≤ 8192 → Sound counted changed
             changed_sound h = record {
@@ -348,7 +350,6 @@ module _ (f : Filled) (m : Group) (s : Sound f m) where
                 kinds = s.room.kinds;
                 numbers = s.room.numbers;
               };
-              kind = s.kind;
               rules = s.rules;
               steps = s.steps;
               last_steps = s.last_steps;
@@ -361,7 +362,7 @@ module _ (f : Filled) (m : Group) (s : Sound f m) where
               ids_fit_lem = omega arith;
             }
 
-            pub required : u + (f.ids - a + b) ≤ 8192 → r ≡ record { verdict = 0; filled = counted } → (l : List ℕ) → l ≡ sets m.steps (22 * f.steps - 22) x
+            pub required : u + (f.ids - a + b) ≤ 8192 → r ≡ Ok counted → (l : List ℕ) → l ≡ sets m.steps (22 * f.steps - 22) x
                 → Adds (first_of (requirement_faults w (open_of f m) which id)) f m (in_group (with_requirement which id) (open_of f m)) r
                 (given m.rules l m.combinators m.properties m.kinds m.numbers)
             required h t l z =
@@ -371,24 +372,24 @@ module _ (f : Filled) (m : Group) (s : Sound f m) where
                 (first_pass 10 0 (ltb 3 which) _ _ refl (le-ltb 3 which k)
                 (first_pass 2 0 (item_over 8 which row) _ _ (rw (open_group f m step_kind, row_last)) o
                 (first_pass 2 0 (ltb 8192 (u + (f.ids - a + b))) _ _ last_test (le-ltb 8192 (u + (f.ids - a + b)) h) first_end))))
-                (open_group counted changed step_kind ∙ rw (open_group f m step_kind) (ap (group f.origin) changed_is))
+                (open_group counted changed step_kind ∙ rw (open_group f m step_kind) (ap (group (origin_in f.opening)) changed_is))
                 t)
 
 -- ---- without a step, or of no such kind
 
-module _ (f : Filled) (m : Group) (s : Sound f m) (w : List ℕ) (which id : ℕ) (r : Taken) (b : Bool)
-    (e : b ≡ (eqb f.kind 2 && (ltb 0 f.rules && ltb 0 (get_or m.rules (3 * f.rules - 3) 0)))) where
-  pub stepless : b ≡ false → r ≡ record { verdict = 10; filled = f }
+module _ (f : Filled) (m : Group) (s : Sound f m) (w : List ℕ) (which id : ℕ) (r : Result Filled Refusal) (b : Bool)
+    (e : b ≡ (eqb (kind_in f.opening) 2 && (ltb 0 f.rules && ltb 0 (get_or m.rules (3 * f.rules - 3) 0)))) where
+  pub stepless : b ≡ false → r ≡ Err (BadRecord 0)
       → Adds (first_of (requirement_faults w (open_of f m) which id)) f m (in_group (with_requirement which id) (open_of f m)) r m
-  stepless h t = adds_refused s (first_hit 10 (not (in_step (open_of f m))) _ _ refl (rw (← step_tested f m s b e, h))) (omega arith) t
+  stepless h t = adds_refused s (first_hit 10 (not (in_step (open_of f m))) _ _ refl (rw (← step_tested f m s b e, h))) t refl
 
-  pub which_refused : b ≡ true → 3 < which → r ≡ record { verdict = 10; filled = f }
+  pub which_refused : b ≡ true → 3 < which → r ≡ Err (BadRecord 0)
       → Adds (first_of (requirement_faults w (open_of f m) which id)) f m (in_group (with_requirement which id) (open_of f m)) r m
   which_refused h k t =
       adds_refused s
       (first_pass 10 10 (not (in_step (open_of f m))) _ _ refl (rw (← step_tested f m s b e, h))
       (first_hit 10 (ltb 3 which) _ _ refl (lt-ltb 3 which k)))
-      (omega arith) t
+      t refl
 
 -- ---- the test's ways out
 

@@ -11,6 +11,9 @@ use lib.Dec.{eqb, ltb}
 use mir.Syntax.{w32, w64}
 use mir.Val.{Fits}
 use borrow.Author.Tests.{lt-ltb, le-ltb, eq-eqb, ne_eqb}
+use Rattle.std.specs.Prelude.{Result, Ok, Err}
+use Rattle.lent.specs.declared.Refusal.{Refusal}
+use Rattle.lent.specs.declared.Refusal.TheVariants.{OverSize, BadRecord}
 use Rattle.lent.specs.Refusals.{check, first_of}
 use Rattle.lent.proofs.Refusals.{first_hit, first_pass, first_end}
 use Rattle.lent.proofs.Placing.{sets_before, sets_inside}
@@ -20,10 +23,9 @@ use Rattle.sheet.specs.Laying.{ids_held}
 use Rattle.given.specs.Given.{Group, given}
 use Rattle.records.specs.Rows.{empty_row}
 use Rattle.gather.specs.declared.Filled.{Filled}
-use Rattle.gather.specs.declared.Taken.{Taken}
 use Rattle.gather.specs.Opened.{rule_count, ids_given, last_of, one_more, with_step}
 use Rattle.gather.specs.Making.{in_rule, in_group, step_faults}
-use Rattle.gather.specs.Memory.{filled_of, open_of, Sound, Adds}
+use Rattle.gather.specs.Memory.{filled_of, open_of, Sound, Adds, kind_in, origin_in}
 use Rattle.gather.proofs.Filling.{steps_grown, one_grown, last, last_in, last_more, last_kept, take_more}
 use Rattle.gather.proofs.Ids.{ids_empty}
 use Rattle.gather.proofs.Opening.{open_group, adds_refused, adds_accepted, rules_counted, filled_rules, not_group}
@@ -79,16 +81,16 @@ module _ (f : Filled) (r s c p k n : List ℕ) (h : Sound f (given r s c p k n))
   abbrev lent : Group
   lent = given r s c p k n
 
-  module _ (code : ℕ) (t : Taken) where
-    pub step_no_group : (f.kind ≡ 2 → ⊥) → t ≡ record { verdict = 10; filled = f }
+  module _ (code : ℕ) (t : Result Filled Refusal) where
+    pub step_no_group : (kind_in f.opening ≡ 2 → ⊥) → t ≡ Err (BadRecord 0)
         → Adds (first_of (step_faults (open_of f lent) code)) f lent (in_group (with_step code) (open_of f lent)) t lent
     step_no_group g e =
-        adds_refused h (first_hit 10 true (not (in_rule (open_of f lent))) _ (rw (not_group f lent h g)) refl) (omega arith) e
+        adds_refused h (first_hit 10 true (not (in_rule (open_of f lent))) _ (rw (not_group f lent h g)) refl) e refl
 
-    pub step_no_rule : f.kind ≡ 2 → f.rules ≡ 0 → t ≡ record { verdict = 10; filled = f }
+    pub step_no_rule : kind_in f.opening ≡ 2 → f.rules ≡ 0 → t ≡ Err (BadRecord 0)
         → Adds (first_of (step_faults (open_of f lent) code)) f lent (in_group (with_step code) (open_of f lent)) t lent
     step_no_rule g z e =
-        adds_refused h (first_hit 10 true (not (in_rule (open_of f lent))) _ (rw (open_group f lent g, rules_counted f lent h, z)) refl) (omega arith) e
+        adds_refused h (first_hit 10 true (not (in_rule (open_of f lent))) _ (rw (open_group f lent g, rules_counted f lent h, z)) refl) e refl
 
   module _ (u : 1 ≤ f.rules) where
     -- the number of steps before
@@ -139,7 +141,7 @@ module _ (f : Filled) (r s c p k n : List ℕ) (h : Sound f (given r s c p k n))
 
     -- what stays sound, whatever the combinators
     abbrev grown : ℕ → Filled
-    grown ties = record { kind = f.kind; origin = f.origin; rules = f.rules; steps = f.steps + 1; combinators = ties; entries = f.entries; ids = f.ids }
+    grown ties = record { opening = f.opening; rules = f.rules; steps = f.steps + 1; combinators = ties; entries = f.entries; ids = f.ids }
 
     abbrev lent' : List ℕ → List ℕ → Group
     lent' r' c' = given r' (sets s (22 * f.steps) (empty_row 8)) c' p k n
@@ -160,7 +162,6 @@ module _ (f : Filled) (r s c p k n : List ℕ) (h : Sound f (given r s c p k n))
           kinds = h.room.kinds;
           numbers = h.room.numbers;
         };
-        kind = h.kind;
         rules = h.rules;
         steps = omega (arith, h.steps, x);
         last_steps = omega (arith, x);
@@ -180,32 +181,32 @@ module _ (f : Filled) (r s c p k n : List ℕ) (h : Sound f (given r s c p k n))
         let x = last_in r' f.rules 1 (omega (arith, counted_size r' y, h.rules)) u (omega arith) in
         record { fits = omega (arith, x, counted_ties r' y, h.last_combinators, h.last_steps) }
 
-    module _ (g : f.kind ≡ 2) (code : ℕ) (t : Taken) where
+    module _ (g : kind_in f.opening ≡ 2) (code : ℕ) (t : Result Filled Refusal) where
       step_limits : (a b : Bool) (v : ℕ) → ltb (cond (eqb before 0) 0 1) code ≡ a → ltb 8 (before + 1) ≡ b → v ≡ first_of (check 10 a ∷ check 2 b ∷ [])
           → v ≡ first_of (step_faults (open_of f lent) code)
       step_limits a b v x y q =
           rw (open_group f lent g)
           (first_pass 10 v false (not (ltb 0 (rule_count (filled_of f lent)))) _ (rw (rules_counted f lent h, lt-ltb 0 f.rules u)) refl (rw (x, y) q))
 
-      pub step_first_code : before ≡ 0 → 0 < code → t ≡ record { verdict = 10; filled = f }
+      pub step_first_code : before ≡ 0 → 0 < code → t ≡ Err (BadRecord 0)
           → Adds (first_of (step_faults (open_of f lent) code)) f lent (in_group (with_step code) (open_of f lent)) t lent
-      step_first_code z l e = adds_refused h (step_limits true _ 10 (rw z (lt-ltb 0 code l)) refl (first_hit 10 true true _ refl refl)) (omega arith) e
+      step_first_code z l e = adds_refused h (step_limits true _ 10 (rw z (lt-ltb 0 code l)) refl (first_hit 10 true true _ refl refl)) e refl
 
-      pub step_later_code : (b : ℕ) → b ≡ before → 1 ≤ b → 1 < code → t ≡ record { verdict = 10; filled = f }
+      pub step_later_code : (b : ℕ) → b ≡ before → 1 ≤ b → 1 < code → t ≡ Err (BadRecord 0)
           → Adds (first_of (step_faults (open_of f lent) code)) f lent (in_group (with_step code) (open_of f lent)) t lent
       step_later_code b a z l e =
-          adds_refused h (step_limits true _ 10 (rw (ne_eqb before 0 (λ x. omega arith)) (lt-ltb 1 code l)) refl (first_hit 10 true true _ refl refl)) (omega arith) e
+          adds_refused h (step_limits true _ 10 (rw (ne_eqb before 0 (λ x. omega arith)) (lt-ltb 1 code l)) refl (first_hit 10 true true _ refl refl)) e refl
 
-      pub step_over : (b : ℕ) → b ≡ before → code ≤ 1 → 8 ≤ b → t ≡ record { verdict = 2; filled = f }
+      pub step_over : (b : ℕ) → b ≡ before → code ≤ 1 → 8 ≤ b → t ≡ Err OverSize
           → Adds (first_of (step_faults (open_of f lent) code)) f lent (in_group (with_step code) (open_of f lent)) t lent
       step_over b a z l e =
           adds_refused h
           (step_limits false true 2 (rw (ne_eqb before 0 (λ x. omega arith)) (le-ltb 1 code z)) (lt-ltb 8 (before + 1) (omega arith))
           (first_pass 10 2 false false _ refl refl (first_hit 2 true true _ refl refl)))
-          (omega arith) e
+          e refl
 
       pub step_first : before ≡ 0 → code ≤ 0 → (r' s' : List ℕ) → r' ≡ set r (3 * f.rules - 3) 1 → s' ≡ sets s (22 * f.steps) (empty_row 8)
-          → t ≡ record { verdict = 0; filled = grown f.combinators }
+          → t ≡ Ok (grown f.combinators)
           → Adds (first_of (step_faults (open_of f lent) code)) f lent (in_group (with_step code) (open_of f lent)) t (given r' s' c p k n)
       unfolding with_step
       step_first z l r' s' q x e =
@@ -224,7 +225,7 @@ module _ (f : Filled) (r s c p k n : List ℕ) (h : Sound f (given r s c p k n))
           → r'' ≡ set r' (3 * f.rules - 3 + 1) (v + 1)
           → s' ≡ sets s (22 * f.steps) (empty_row 8)
           → c' ≡ set c f.combinators code
-          → t ≡ record { verdict = 0; filled = grown (f.combinators + 1) }
+          → t ≡ Ok (grown (f.combinators + 1))
           → Adds (first_of (step_faults (open_of f lent) code)) f lent (in_group (with_step code) (open_of f lent)) t (given r'' s' c' p k n)
       unfolding with_step
       step_later b a z l few v r' r'' s' c' q d q' x w e =
@@ -249,7 +250,7 @@ module _ (f : Filled) (r s c p k n : List ℕ) (h : Sound f (given r s c p k n))
           e)
 
   -- the word that a step is counted in
-  module _ (g : f.kind ≡ 2) (z : f.rules ≡ 0 → ⊥) (v : ℕ) (e : v ≡ get_or r (3 * f.rules - 3) 0) where
+  module _ (g : kind_in f.opening ≡ 2) (z : f.rules ≡ 0 → ⊥) (v : ℕ) (e : v ≡ get_or r (3 * f.rules - 3) 0) where
     some : 1 ≤ f.rules
     some = omega arith
 
@@ -258,8 +259,8 @@ module _ (f : Filled) (r s c p k n : List ℕ) (h : Sound f (given r s c p k n))
         let y : 3 * f.rules - 3 + 0 ≡ 3 * f.rules - 3 = omega arith in
         e ∙ ap (λ i. get_or r i 0) (sym y) ∙ sym (last_in r f.rules 0 (room some) some (omega arith))
 
-    pub first_asked : v ≡ 0 → Sound f lent × ((f.kind ≡ 2) × (1 ≤ f.rules) × (last_of (filled_of f lent) 0 ≡ 0))
+    pub first_asked : v ≡ 0 → Sound f lent × ((kind_in f.opening ≡ 2) × (1 ≤ f.rules) × (last_of (filled_of f lent) 0 ≡ 0))
     first_asked q = (h, (g, some, sym read ∙ q))
 
-    pub later_asked : (v ≡ 0 → ⊥) → Sound f lent × ((f.kind ≡ 2) × (1 ≤ f.rules) × (v ≡ last_of (filled_of f lent) 0) × (1 ≤ v))
+    pub later_asked : (v ≡ 0 → ⊥) → Sound f lent × ((kind_in f.opening ≡ 2) × (1 ≤ f.rules) × (v ≡ last_of (filled_of f lent) 0) × (1 ≤ v))
     later_asked q = (h, (g, some, read, omega arith))

@@ -9,8 +9,10 @@ use lib.ListN.{take, length-take, get_or-eq_default}
 use lib.Seq.{get_or-take}
 use lib.Dec.{eqb, ltb}
 use borrow.Author.Tests.{ne_eqb, lt-ltb, le-ltb}
-use Rattle.lent.specs.Refusals.{first_of}
-use Rattle.lent.proofs.Refusals.{first_hit, first_pass, first_end}
+use Rattle.std.specs.Prelude.{Ok, Err}
+use Rattle.lent.specs.Refusals.{number_of, first_of}
+use Rattle.lent.specs.declared.Refusal.{Refusal}
+use Rattle.lent.proofs.Refusals.{refusal_number, first_hit, first_pass, first_end}
 use Rattle.sheet.specs.Layout.{styles_in}
 use Rattle.theory.specs.Lists.{total}
 use Rattle.selector.specs.Rows.{selector_of}
@@ -22,29 +24,30 @@ use Rattle.builder.specs.Answers.{Pushes}
 use Rattle.made.specs.Made.{Halves}
 use Rattle.made.proofs.Pushed.{style_shaped, group_shaped}
 use Rattle.gather.specs.declared.Filled.{Filled}
-use Rattle.gather.specs.declared.Taken.{Taken}
+use Rattle.gather.specs.declared.Opening.{Opening}
+use Rattle.gather.specs.declared.Opening.TheVariants.{Nothing, Direct, Rules}
 use Rattle.gather.specs.Opened.{Open, nothing, direct, group, none, rule_count, entries_given, ids_given, close_verdict, closed}
 use Rattle.gather.specs.Making.{is_direct, direct_faults, group_faults, closing_verdict}
-use Rattle.gather.specs.Memory.{filled_of, open_of, Roomy, Sound, Closes}
+use Rattle.gather.specs.Memory.{filled_of, open_of, kind_in, origin_in, newly, Roomy, Sound, Closes}
 use Rattle.gather.proofs.Opening.{open_nothing, open_direct, open_group, kinds, rules_counted, entries_counted}
 
 -- ---- what is pushed
 
 module _ (w : List ℕ) (f : Filled) (m : Group) where
-  pub close_nothing : f.kind ≡ 0 → Pushes (close_verdict w (open_of f m)) w (closed w (open_of f m)) 0 w
+  pub close_nothing : kind_in f.opening ≡ 0 → Pushes (close_verdict w (open_of f m)) w (closed w (open_of f m)) 0 w
   unfolding close_verdict closed
   close_nothing k = rw (open_nothing f m k) (record { answer = refl; memory = refl })
 
   module _ (s : Sound f m) (r : ℕ) (after : List ℕ) where
-    pub close_direct : f.kind ≡ 1
-        → Pushes (style_push_verdict w f.origin (take f.entries m.properties) (take f.entries m.kinds) (take f.entries m.numbers) f.entries) w
-        (pushed_style w f.origin (take f.entries m.properties) (take f.entries m.kinds) (take f.entries m.numbers) f.entries) r after
+    pub close_direct : kind_in f.opening ≡ 1
+        → Pushes (style_push_verdict w (origin_in f.opening) (take f.entries m.properties) (take f.entries m.kinds) (take f.entries m.numbers) f.entries) w
+        (pushed_style w (origin_in f.opening) (take f.entries m.properties) (take f.entries m.kinds) (take f.entries m.numbers) f.entries) r after
         → Pushes (close_verdict w (open_of f m)) w (closed w (open_of f m)) r after
     unfolding close_verdict closed
     close_direct k p = rw (open_direct f m k, entries_counted f m s) p
 
-    pub close_rules : f.kind ≡ 2
-        → Pushes (group_verdict w f.origin (filled_of f m) f.rules) w (pushed_group w f.origin (filled_of f m) f.rules) r after
+    pub close_rules : kind_in f.opening ≡ 2
+        → Pushes (group_verdict w (origin_in f.opening) (filled_of f m) f.rules) w (pushed_group w (origin_in f.opening) (filled_of f m) f.rules) r after
         → Pushes (close_verdict w (open_of f m)) w (closed w (open_of f m)) r after
     unfolding close_verdict closed
     close_rules k p = rw (open_group f m k, rules_counted f m s) p
@@ -60,24 +63,20 @@ halves_taken l n u k = elim (dec_lt k n) [
 module _ (w : List ℕ) (f : Filled) (m : Group) (s : Sound f m) (u : Halves m.properties) (z : sheet_shape w ≡ true) where
   closed_shaped : close_verdict w (open_of f m) ≡ 0 → sheet_shape (closed w (open_of f m)) ≡ true
   unfolding close_verdict closed
-  closed_shaped e = kinds f.kind s.kind
+  closed_shaped e = kinds f.opening
       (λ k. rw (open_nothing f m k) z)
       (λ k. rw (open_direct f m k)
-      (style_shaped w f.origin (take f.entries m.properties) (take f.entries m.kinds) (take f.entries m.numbers) (entries_given (filled_of f m))
+      (style_shaped w (origin_in f.opening) (take f.entries m.properties) (take f.entries m.kinds) (take f.entries m.numbers) (entries_given (filled_of f m))
       (halves_taken m.properties f.entries u) z (rw (open_direct f m k) at e)))
       (λ k. rw (open_group f m k)
-      (group_shaped w f.origin (filled_of f m) (rule_count (filled_of f m)) (halves_taken m.properties f.entries u) z (rw (open_group f m k) at e)))
+      (group_shaped w (origin_in f.opening) (filled_of f m) (rule_count (filled_of f m)) (halves_taken m.properties f.entries u) z (rw (open_group f m k) at e)))
 
 -- ---- what is opened
 
-abbrev pub newly : ℕ → ℕ → Filled
-newly kind origin = record { kind = kind; origin = origin; rules = 0; steps = 0; combinators = 0; entries = 0; ids = 0 }
-
-pub newly_sound : (kind origin : ℕ) (m : Group) → Roomy m → kind ≤ 2 → Sound (newly kind origin) m
+pub newly_sound : (o : Opening) (m : Group) → Roomy m → Sound (newly o) m
 unfolding ids_given selector_of ids_held total
-newly_sound kind origin m r h = record {
+newly_sound o m r = record {
   room = r;
-  kind = h;
   rules = omega arith;
   steps = omega arith;
   last_steps = omega arith;
@@ -90,72 +89,66 @@ newly_sound kind origin m r h = record {
   ids_fit_lem = omega arith;
 }
 
-pub newly_nothing : (m : Group) → open_of (newly 0 0) m ≡ nothing
+pub newly_nothing : (m : Group) → open_of (newly Nothing) m ≡ nothing
 unfolding open_of
 newly_nothing m = refl
 
-pub newly_direct : (origin : ℕ) (m : Group) → open_of (newly 1 origin) m ≡ direct origin none
+pub newly_direct : (origin : ℕ) (m : Group) → open_of (newly (Direct origin)) m ≡ direct origin none
 unfolding open_of
 newly_direct origin m = refl
 
-pub newly_rules : (origin : ℕ) (m : Group) → open_of (newly 2 origin) m ≡ group origin none
+pub newly_rules : (origin : ℕ) (m : Group) → open_of (newly (Rules origin)) m ≡ group origin none
 unfolding open_of
 newly_rules origin m = refl
 
 -- ---- the three ways out
 
-module _ (w : List ℕ) (f : Filled) (m : Group) (s : Sound f m) (z : sheet_shape w ≡ true) (after : Open) (fault : ℕ) (r : Taken) where
+module _ (w : List ℕ) (f : Filled) (m : Group) (s : Sound f m) (z : sheet_shape w ≡ true) (after : Open) (fault : ℕ) where
   -- its own fault
-  pub closes_faulty : (k : ℕ) → k ≡ fault → 0 < k → r ≡ record { verdict = k; filled = f }
-      → Closes fault w f m after r w
+  pub closes_faulty : (e : Refusal) → number_of e ≡ fault → Closes fault w f m after (Err e) w
   unfolding closing_verdict
-  closes_faulty k q h e =
-      let n : eqb k 0 ≡ false = ne_eqb k 0 (λ y. omega arith) in
+  closes_faulty e q =
+      let n : eqb (number_of e) 0 ≡ false = ne_eqb (number_of e) 0 (refusal_number e) in
       record {
-        answer = rw (e, ← q, n);
+        answer = rw (← q, n);
         sheet = rw (← q, n, n);
-        opens = rw e (λ y. absurd (omega arith));
-        keeps = λ _. rw e;
-        sound = rw e s;
+        opens = λ y. absurd (refusal_number e y);
+        keeps = λ _. refl;
+        sound = s;
         shape = z;
       }
 
-  module _ (v : ℕ) (x : List ℕ) (o : 0 ≡ fault) (p : Pushes (close_verdict w (open_of f m)) w (closed w (open_of f m)) v x) where
+  module _ (x : List ℕ) (o : 0 ≡ fault) where
     -- what it closes is refused
-    pub closes_refused : (v ≡ 0 → ⊥) → r ≡ record { verdict = v; filled = f } → Closes fault w f m after r x
+    pub closes_refused : (e : Refusal) → Pushes (close_verdict w (open_of f m)) w (closed w (open_of f m)) (number_of e) x → Closes fault w f m after (Err e) x
     unfolding closing_verdict
-    closes_refused h e =
-        let n : eqb v 0 ≡ false = ne_eqb v 0 h in
+    closes_refused e p =
+        let n : eqb (number_of e) 0 ≡ false = ne_eqb (number_of e) 0 (refusal_number e) in
         let x_is : x ≡ w = p.memory ∙ rw (← p.answer, n) in
         record {
-          answer = rw (e, ← o, ← p.answer);
+          answer = rw (← o, ← p.answer);
           sheet = rw (← o, ← p.answer, n) x_is;
-          opens = rw e (λ y. absurd (h y));
-          keeps = λ _. rw e;
-          sound = rw e s;
+          opens = λ y. absurd (refusal_number e y);
+          keeps = λ _. refl;
+          sound = s;
           shape = rw x_is z;
         }
 
-    pub closes_accepted : Halves m.properties → v ≡ 0 → (f' : Filled) → open_of f' m ≡ after → Sound f' m → r ≡ record { verdict = 0; filled = f' }
-        → Closes fault w f m after r x
+    -- what it opens stands in no lent list yet
+    pub closes_opened : Halves m.properties → Pushes (close_verdict w (open_of f m)) w (closed w (open_of f m)) 0 x
+        → (g : Opening) (f' : Filled) → open_of (newly g) m ≡ after → f' ≡ newly g → Closes fault w f m after (Ok f') x
     unfolding closing_verdict
-    closes_accepted u h f' a s' e =
-        let c : close_verdict w (open_of f m) ≡ 0 = sym p.answer ∙ h in
+    closes_opened u p g f' a q =
+        let c : close_verdict w (open_of f m) ≡ 0 = sym p.answer in
         let x_is : x ≡ closed w (open_of f m) = p.memory ∙ rw c in
         record {
-          answer = rw (e, ← o, c);
+          answer = rw (← o, c);
           sheet = rw (← o, c) x_is;
-          opens = λ _. rw e a;
-          keeps = rw e (λ y. absurd (y refl));
-          sound = rw e s';
+          opens = λ _. rw q a;
+          keeps = λ y. absurd (y refl);
+          sound = rw q (newly_sound g m s.room);
           shape = rw x_is (closed_shaped w f m s u z c);
         }
-
-    -- and what it opens stands in no lent list yet
-    pub closes_opened : Halves m.properties → v ≡ 0 → (kind origin : ℕ) (g : Filled) → kind ≤ 2 → open_of (newly kind origin) m ≡ after
-        → g ≡ newly kind origin → r ≡ record { verdict = 0; filled = g }
-        → Closes fault w f m after r x
-    closes_opened u h kind origin g k a q e = closes_accepted u h g (rw q a) (rw q (newly_sound kind origin m s.room k)) e
 
 -- ---- their own faults
 
@@ -173,20 +166,20 @@ style_one k t e = rw e (at_most_lem (eqb k 1))
     at_most_lem true = omega arith
     at_most_lem false = omega arith
 
-direct_open : (f : Filled) (m : Group) → Sound f m → is_direct (open_of f m) ≡ eqb f.kind 1
-direct_open f m s = kinds f.kind s.kind
+direct_open : (f : Filled) (m : Group) → Sound f m → is_direct (open_of f m) ≡ eqb (kind_in f.opening) 1
+direct_open f m s = kinds f.opening
     (λ k. rw (open_nothing f m k, is k))
     (λ k. rw (open_direct f m k, is k))
     (λ k. rw (open_group f m k, is k))
   where
-    is : {n : ℕ} → f.kind ≡ n → eqb f.kind 1 ≡ eqb n 1
+    is : {n : ℕ} → kind_in f.opening ≡ n → eqb (kind_in f.opening) 1 ≡ eqb n 1
     is e = rw e
 
 module _ (w : List ℕ) (f : Filled) (m : Group) (s : Sound f m) (origin : ℕ) where
   pub direct_origin : 7 < origin → 6 ≡ first_of (direct_faults w (open_of f m) origin)
   direct_origin h = first_hit 6 (ltb 7 origin) _ _ refl (lt-ltb 7 origin h)
 
-  module _ (h : origin ≤ 7) (u t : ℕ) (e : u ≡ styles_in w) (q : t ≡ cond (eqb f.kind 1) 1 0) where
+  module _ (h : origin ≤ 7) (u t : ℕ) (e : u ≡ styles_in w) (q : t ≡ cond (eqb (kind_in f.opening) 1) 1 0) where
     styles_test : ltb 64 (u + t + 1) ≡ ltb 64 (styles_in w + cond (is_direct (open_of f m)) 1 0 + 1)
     styles_test = rw (e, q, direct_open f m s)
 

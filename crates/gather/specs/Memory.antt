@@ -1,11 +1,14 @@
 -- What is open, in lent lists that are filled from the front: what the reader of records holds. Assumes nothing.
-use Rattle.std.specs.Prelude.{◌≡◌, cond, true, List, ℕ, ◌+◌, ◌-◌, ◌*◌, ◌≤◌, ◌<◌, length, take, eqb}
+use Rattle.std.specs.Prelude.{◌≡◌, cond, true, List, ℕ, ◌+◌, ◌-◌, ◌*◌, ◌≤◌, ◌<◌, length, take, eqb, Result, Ok, Err}
+use Rattle.lent.specs.Refusals.{verdict_of}
+use Rattle.lent.specs.declared.Refusal.{Refusal}
 use Rattle.selector.specs.Checks.{row_fits}
 use Rattle.sheet.specs.Shape.{sheet_shape}
 use Rattle.given.specs.Given.{Group, given}
 use Rattle.records.specs.declared.Record.{Record}
 use Rattle.gather.specs.declared.Filled.{Filled}
-use Rattle.gather.specs.declared.Taken.{Taken}
+use Rattle.gather.specs.declared.Opening.{Opening}
+use Rattle.gather.specs.declared.Opening.TheVariants.{Nothing, Direct, Rules}
 use Rattle.gather.specs.Opened.{Open, nothing, direct, group, ids_given, last_of, closed}
 use Rattle.gather.specs.Making.{closing_verdict, making_verdict, sheet_after, open_after}
 
@@ -20,9 +23,29 @@ filled_of f m =
     (take f.entries m.kinds)
     (take f.entries m.numbers)
 
--- what is open: nothing (0), a direct style (1), a group (2)
+-- what is open: nothing, a direct style or a group, in these lists
+abbrev pub open_in : Opening → Group → Open
+open_in Nothing g = nothing
+open_in (Direct origin) g = direct origin g
+open_in (Rules origin) g = group origin g
+
 unfoldable pub open_of : Filled → Group → Open
-open_of f m = cond (eqb f.kind 0) nothing (cond (eqb f.kind 1) (direct f.origin (filled_of f m)) (group f.origin (filled_of f m)))
+open_of f m = open_in f.opening (filled_of f m)
+
+-- as a number: nothing (0), a direct style (1), a group (2)
+abbrev pub kind_in : Opening → ℕ
+kind_in Nothing = 0
+kind_in (Direct origin) = 1
+kind_in (Rules origin) = 2
+
+abbrev pub origin_in : Opening → ℕ
+origin_in Nothing = 0
+origin_in (Direct origin) = origin
+origin_in (Rules origin) = origin
+
+-- what a 2, 3 or 8 opens: no list is filled yet
+abbrev pub newly : Opening → Filled
+newly o = record { opening = o; rules = 0; steps = 0; combinators = 0; entries = 0; ids = 0 }
 
 -- the lent lists have room for whatever is accepted
 pub record Roomy (m : Group) : Type 0 where
@@ -36,7 +59,6 @@ pub record Roomy (m : Group) : Type 0 where
 -- what the records before have shown
 pub record Sound (f : Filled) (m : Group) : Type 0 where
   pub room : Roomy m
-  pub kind : f.kind ≤ 2
   pub rules : f.rules ≤ 256
   pub steps : f.steps ≤ 8 * (f.rules - 1) + last_of (filled_of f m) 0
   pub last_steps : last_of (filled_of f m) 0 ≤ 8
@@ -48,29 +70,34 @@ pub record Sound (f : Filled) (m : Group) : Type 0 where
   pub ids : f.ids ≡ ids_given (filled_of f m)
   pub ids_fit_lem : f.ids ≤ 8192
 
--- ---- one record: the refusal's number, 0 for none, and what is open then. A refused one changes nothing
+-- ---- one record: what is filled then, or its refusal. A refused one changes nothing
+
+-- how far the lists are filled then: as before where the record is refused
+abbrev pub filled_by : Result Filled Refusal → Filled → Filled
+filled_by (Ok after) before = after
+filled_by (Err refusal) before = before
 
 -- of a kind that only adds to what is open
-pub record Adds (fault : ℕ) (f : Filled) (m : Group) (after : Open) (r : Taken) (m' : Group) : Type 0 where
-  pub answer : r.verdict ≡ fault
-  pub opens : r.verdict ≡ 0 → open_of r.filled m' ≡ after
-  pub keeps : (r.verdict ≡ 0 → ⊥) → (r.filled ≡ f) × (m' ≡ m)
-  pub sound : Sound r.filled m'
+pub record Adds (fault : ℕ) (f : Filled) (m : Group) (after : Open) (r : Result Filled Refusal) (m' : Group) : Type 0 where
+  pub answer : verdict_of r ≡ fault
+  pub opens : verdict_of r ≡ 0 → open_of (filled_by r f) m' ≡ after
+  pub keeps : (verdict_of r ≡ 0 → ⊥) → (filled_by r f ≡ f) × (m' ≡ m)
+  pub sound : Sound (filled_by r f) m'
 
 -- of a kind that closes what is open, too: with the sheet's words; the lent lists are only read
-pub record Closes (fault : ℕ) (w : List ℕ) (f : Filled) (m : Group) (after : Open) (r : Taken) (w' : List ℕ) : Type 0 where
-  pub answer : r.verdict ≡ closing_verdict fault w (open_of f m)
+pub record Closes (fault : ℕ) (w : List ℕ) (f : Filled) (m : Group) (after : Open) (r : Result Filled Refusal) (w' : List ℕ) : Type 0 where
+  pub answer : verdict_of r ≡ closing_verdict fault w (open_of f m)
   pub sheet : w' ≡ cond (eqb (closing_verdict fault w (open_of f m)) 0) (closed w (open_of f m)) w
-  pub opens : r.verdict ≡ 0 → open_of r.filled m ≡ after
-  pub keeps : (r.verdict ≡ 0 → ⊥) → r.filled ≡ f
-  pub sound : Sound r.filled m
+  pub opens : verdict_of r ≡ 0 → open_of (filled_by r f) m ≡ after
+  pub keeps : (verdict_of r ≡ 0 → ⊥) → filled_by r f ≡ f
+  pub sound : Sound (filled_by r f) m
   pub shape : sheet_shape w' ≡ true
 
 -- of any kind
-pub record Takes (w : List ℕ) (f : Filled) (m : Group) (r : Record) (taken : Taken) (w' : List ℕ) (m' : Group) : Type 0 where
-  pub answer : taken.verdict ≡ making_verdict w (open_of f m) r
+pub record Takes (w : List ℕ) (f : Filled) (m : Group) (r : Record) (taken : Result Filled Refusal) (w' : List ℕ) (m' : Group) : Type 0 where
+  pub answer : verdict_of taken ≡ making_verdict w (open_of f m) r
   pub sheet : w' ≡ cond (eqb (making_verdict w (open_of f m) r) 0) (sheet_after w (open_of f m) r) w
-  pub opens : taken.verdict ≡ 0 → open_of taken.filled m' ≡ open_after (open_of f m) r
-  pub keeps : (taken.verdict ≡ 0 → ⊥) → (taken.filled ≡ f) × (m' ≡ m)
-  pub sound : Sound taken.filled m'
+  pub opens : verdict_of taken ≡ 0 → open_of (filled_by taken f) m' ≡ open_after (open_of f m) r
+  pub keeps : (verdict_of taken ≡ 0 → ⊥) → (filled_by taken f ≡ f) × (m' ≡ m)
+  pub sound : Sound (filled_by taken f) m'
   pub shape : sheet_shape w' ≡ true

@@ -1,13 +1,25 @@
 // What records 2 to 8 are gathered into: the lists that a push takes.
 #![tactic(auto)]
 
-pub mod held;
+ghost use Rattle.std.specs.Prelude.{◌≡◌};
+ghost use Rattle.given.specs.Given.{Group};
+ghost use Rattle.gather.specs.Opened.{nothing};
+ghost use Rattle.gather.specs.Memory.{newly, Sound, Adds};
 
-// How much of each lent list is filled, and what is open: nothing (0), a direct style (1) or a group (2).
-#[derive(Clone, Copy)]
+use lent::Refusal;
+
+// What is open: nothing, or a direct style or a group of rules with its origin.
+#[derive(Clone, Copy, Debug, PartialEq, Eq)]
+pub enum Opening {
+    Nothing,
+    Direct(u32),
+    Rules(u32),
+}
+
+// What is open, and how much of each lent list is filled.
+#[derive(Clone, Copy, Debug, PartialEq, Eq)]
 pub struct Filled {
-    pub kind: u32,
-    pub origin: u32,
+    pub opening: Opening,
     pub rules: usize,
     pub steps: usize,
     pub combinators: usize,
@@ -16,9 +28,27 @@ pub struct Filled {
     pub ids: usize,
 }
 
-// A refusal's number, 0 for none, and what is open then.
-#[derive(Clone, Copy)]
-pub struct Taken {
-    pub verdict: u32,
-    pub filled: Filled,
+impl Filled {
+    // What a 2, 3 or 8 opens: no list is filled yet.
+    pub fn opened(opening: Opening) -> Filled
+        ensures { result ≡ newly opening }
+    {
+        Filled {
+            opening,
+            rules: 0,
+            steps: 0,
+            combinators: 0,
+            entries: 0,
+            ids: 0,
+        }
+    }
+}
+
+fn probe(f: Filled) -> Result<Filled, Refusal>
+    ensures { (m : Group) → Sound f m → Adds 10 f m nothing result m }
+{
+    let Opening::Rules(_) = f.opening else {
+        return Err(Refusal::BadRecord(0));
+    };
+    Ok(f)
 }
