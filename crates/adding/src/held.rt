@@ -7,7 +7,7 @@ ghost use Rattle.gather.specs.Opened.{last_of, with_rule, with_step, with_requir
 ghost use Rattle.gather.specs.Making.{rule_faults, step_faults, requirement_faults, entry_faults, in_step, in_group};
 ghost use Rattle.gather.specs.Memory.{filled_of, open_of, kind_in, Sound, Adds};
 
-use gather::{Filled, Opening};
+use gather::{Filled, OpenKind};
 use given::held::{all_entries, held_ids};
 use lent::Refusal;
 use lent::held::part;
@@ -29,7 +29,7 @@ pub fn take_rule(
     requires sound { Sound f (given rules.old steps.now combinators.now properties.now kinds.now numbers.now) }
     ensures { Adds (first_of (rule_faults sheet.now (open_of f (given rules.old steps.now combinators.now properties.now kinds.now numbers.now)))) f (given rules.old steps.now combinators.now properties.now kinds.now numbers.now) (in_group with_rule (open_of f (given rules.old steps.now combinators.now properties.now kinds.now numbers.now))) result (given rules.new steps.now combinators.now properties.now kinds.now numbers.now) }
 {
-    let Opening::Rules(_) = f.opening else {
+    let OpenKind::Rules(_) = f.opening else {
         return Err(Refusal::BadRecord(0));
     };
     if 256 <= wide(word(sheet, layout::RULES)) + f.rules {
@@ -115,7 +115,7 @@ pub fn take_step(
     requires { Sound f (given rules.old steps.old combinators.old properties.now kinds.now numbers.now) }
     ensures { Adds (first_of (step_faults (open_of f (given rules.old steps.old combinators.old properties.now kinds.now numbers.now)) code)) f (given rules.old steps.old combinators.old properties.now kinds.now numbers.now) (in_group (with_step code) (open_of f (given rules.old steps.old combinators.old properties.now kinds.now numbers.now))) result (given rules.new steps.new combinators.new properties.now kinds.now numbers.now) }
 {
-    let Opening::Rules(_) = f.opening else {
+    let OpenKind::Rules(_) = f.opening else {
         return Err(Refusal::BadRecord(0));
     };
     if f.rules == 0 {
@@ -152,7 +152,7 @@ fn in_step(f: Filled, rules: &[u32]) -> bool
     requires { f.rules ≤ 256 }
     ensures { result ≡ (eqb (kind_in f.opening) 2 && (ltb 0 f.rules && ltb 0 (get_or rules.now (3 * f.rules - 3) 0))) }
 {
-    let Opening::Rules(_) = f.opening else {
+    let OpenKind::Rules(_) = f.opening else {
         return false;
     };
     f.rules != 0 && 0 < word(rules, 3 * f.rules - 3)
@@ -233,9 +233,9 @@ fn in_style(f: Filled) -> bool
     ensures { result ≡ (eqb (kind_in f.opening) 1 || (eqb (kind_in f.opening) 2 && ltb 0 f.rules)) }
 {
     match f.opening {
-        Opening::Nothing => false,
-        Opening::Direct(_) => true,
-        Opening::Rules(_) => 0 < f.rules,
+        OpenKind::Nothing => false,
+        OpenKind::Direct(_) => true,
+        OpenKind::Rules(_) => 0 < f.rules,
     }
 }
 
@@ -244,7 +244,7 @@ fn style_entries(f: Filled, rules: &[u32]) -> usize
     requires { (f.rules ≤ 256) × ((kind_in f.opening ≡ 1 → ⊥) → 1 ≤ f.rules) }
     ensures { result ≡ cond (eqb (kind_in f.opening) 1) f.entries (get_or rules.now (3 * f.rules - 3 + 2) 0) }
 {
-    if let Opening::Direct(_) = f.opening {
+    if let OpenKind::Direct(_) = f.opening {
         return f.entries;
     }
     wide(word(rules, 3 * f.rules - 3 + 2))
@@ -256,7 +256,7 @@ fn count_entry(f: Filled, rules: &mut [u32])
     requires le_rules { kind_in f.opening ≡ 2 → (1 ≤ f.rules) × (get_or rules.old (3 * f.rules - 3 + 2) 0 ≤ 4096) }
     ensures { rules.new ≡ cond (eqb (kind_in f.opening) 2) (set rules.old (3 * f.rules - 3 + 2) (get_or rules.old (3 * f.rules - 3 + 2) 0 + 1)) rules.old }
 {
-    let Opening::Rules(_) = f.opening else {
+    let OpenKind::Rules(_) = f.opening else {
         return;
     };
     let at = 3 * f.rules - 3 + 2;

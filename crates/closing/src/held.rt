@@ -1,16 +1,16 @@
 // For callers that hold the sheet to its shape, and the lent lists to what the records before have left there.
 ghost use Rattle.std.specs.Prelude.{◌≡◌, true, cond, eqb};
-ghost use Rattle.lent.specs.Refusals.{first_of};
+ghost use Rattle.lent.specs.Refusals.{first_of, verdict_of};
 ghost use Rattle.sheet.specs.Shape.{sheet_shape};
 ghost use Rattle.given.specs.Given.{given};
 ghost use Rattle.builder.specs.Answers.{Pushes};
 ghost use Rattle.gather.specs.Opened.{nothing, direct, group, none, close_verdict, closed};
 ghost use Rattle.gather.specs.Making.{direct_faults, group_faults};
-ghost use Rattle.gather.specs.Memory.{open_of, Sound, Closes};
+ghost use Rattle.gather.specs.Memory.{open_of, kind_in, Sound, Closes};
 
 use builder::held::{push_rules, push_style};
-use gather::held::{accepted, opened, refused};
-use gather::{Filled, Taken};
+use gather::{Filled, OpenKind};
+use lent::Refusal;
 use lent::words::{wide, word};
 use sheet::layout;
 
@@ -23,15 +23,16 @@ fn close_style(
     properties: &[u16],
     kinds: &[u32],
     numbers: &[u32],
-) -> u32
-    requires sheet_value { (sheet_shape sheet.old ≡ true) × (f.kind ≡ 1) }
+    origin: u32,
+) -> Result<(), Refusal>
+    requires sheet_value { (sheet_shape sheet.old ≡ true) × (f.opening ≡ OpenKind.Direct origin) }
     requires sound { Sound f (given rules.now steps.now combinators.now properties.now kinds.now numbers.now) }
-    ensures { Pushes (close_verdict sheet.old (open_of f (given rules.now steps.now combinators.now properties.now kinds.now numbers.now))) sheet.old (closed sheet.old (open_of f (given rules.now steps.now combinators.now properties.now kinds.now numbers.now))) result sheet.new }
+    ensures { Pushes (close_verdict sheet.old (open_of f (given rules.now steps.now combinators.now properties.now kinds.now numbers.now))) sheet.old (closed sheet.old (open_of f (given rules.now steps.now combinators.now properties.now kinds.now numbers.now))) (verdict_of result) sheet.new }
 {
     let n = f.entries;
     push_style(
         sheet,
-        f.origin,
+        origin,
         &properties[..n],
         &kinds[..n],
         &numbers[..n],
@@ -48,10 +49,11 @@ fn close_group(
     properties: &[u16],
     kinds: &[u32],
     numbers: &[u32],
-) -> u32
-    requires sheet_value { (sheet_shape sheet.old ≡ true) × (f.kind ≡ 2) }
+    origin: u32,
+) -> Result<(), Refusal>
+    requires sheet_value { (sheet_shape sheet.old ≡ true) × (f.opening ≡ OpenKind.Rules origin) }
     requires sound { Sound f (given rules.now steps.now combinators.now properties.now kinds.now numbers.now) }
-    ensures { Pushes (close_verdict sheet.old (open_of f (given rules.now steps.now combinators.now properties.now kinds.now numbers.now))) sheet.old (closed sheet.old (open_of f (given rules.now steps.now combinators.now properties.now kinds.now numbers.now))) result sheet.new }
+    ensures { Pushes (close_verdict sheet.old (open_of f (given rules.now steps.now combinators.now properties.now kinds.now numbers.now))) sheet.old (closed sheet.old (open_of f (given rules.now steps.now combinators.now properties.now kinds.now numbers.now))) (verdict_of result) sheet.new }
 {
     let r = 3 * f.rules;
     let s = 22 * f.steps;
@@ -59,7 +61,7 @@ fn close_group(
     let n = f.entries;
     push_rules(
         sheet,
-        f.origin,
+        origin,
         &rules[..r],
         f.rules,
         &steps[..s],
@@ -79,16 +81,14 @@ fn close(
     properties: &[u16],
     kinds: &[u32],
     numbers: &[u32],
-) -> u32
+) -> Result<(), Refusal>
     requires sheet_value { sheet_shape sheet.old ≡ true }
     requires sound { Sound f (given rules.now steps.now combinators.now properties.now kinds.now numbers.now) }
-    ensures { Pushes (close_verdict sheet.old (open_of f (given rules.now steps.now combinators.now properties.now kinds.now numbers.now))) sheet.old (closed sheet.old (open_of f (given rules.now steps.now combinators.now properties.now kinds.now numbers.now))) result sheet.new }
+    ensures { Pushes (close_verdict sheet.old (open_of f (given rules.now steps.now combinators.now properties.now kinds.now numbers.now))) sheet.old (closed sheet.old (open_of f (given rules.now steps.now combinators.now properties.now kinds.now numbers.now))) (verdict_of result) sheet.new }
 {
-    if f.kind == 0 {
-        return 0;
-    }
-    if f.kind == 1 {
-        return close_style(
+    match f.opening {
+        OpenKind::Nothing => Ok(()),
+        OpenKind::Direct(origin) => close_style(
             sheet,
             f,
             rules,
@@ -97,25 +97,30 @@ fn close(
             properties,
             kinds,
             numbers,
-        );
+            origin,
+        ),
+        OpenKind::Rules(origin) => close_group(
+            sheet,
+            f,
+            rules,
+            steps,
+            combinators,
+            properties,
+            kinds,
+            numbers,
+            origin,
+        ),
     }
-    close_group(
-        sheet,
-        f,
-        rules,
-        steps,
-        combinators,
-        properties,
-        kinds,
-        numbers,
-    )
 }
 
-// Whether a direct style is open, as a number.
-fn open_style(f: Filled) -> usize
-    ensures { result ≡ cond (eqb f.kind 1) 1 0 }
+// How many direct styles are open.
+fn open_styles(f: Filled) -> usize
+    ensures { result ≡ cond (eqb (kind_in f.opening) 1) 1 0 }
 {
-    if f.kind == 1 { 1 } else { 0 }
+    match f.opening {
+        OpenKind::Direct(_) => 1,
+        _ => 0,
+    }
 }
 
 pub fn take_direct(
@@ -128,18 +133,18 @@ pub fn take_direct(
     kinds: &[u32],
     numbers: &[u32],
     origin: u32,
-) -> Taken
+) -> Result<Filled, Refusal>
     requires sheet_value { sheet_shape sheet.old ≡ true }
     requires sound { Sound f (given rules.now steps.now combinators.now properties.now kinds.now numbers.now) }
     ensures { Closes (first_of (direct_faults sheet.old (open_of f (given rules.now steps.now combinators.now properties.now kinds.now numbers.now)) origin)) sheet.old f (given rules.now steps.now combinators.now properties.now kinds.now numbers.now) (direct origin none) result sheet.new }
 {
     if 7 < origin {
-        return refused(6, f);
+        return Err(Refusal::CodeOutOfRange);
     }
-    if 64 <= wide(word(sheet, layout::STYLES)) + open_style(f) {
-        return refused(2, f);
+    if 64 <= wide(word(sheet, layout::STYLES)) + open_styles(f) {
+        return Err(Refusal::OverSize);
     }
-    let v = close(
+    close(
         sheet,
         f,
         rules,
@@ -148,11 +153,8 @@ pub fn take_direct(
         properties,
         kinds,
         numbers,
-    );
-    if v != 0 {
-        return refused(v, f);
-    }
-    accepted(opened(1, origin))
+    )?;
+    Ok(Filled::opened(OpenKind::Direct(origin)))
 }
 
 pub fn take_group(
@@ -165,15 +167,15 @@ pub fn take_group(
     kinds: &[u32],
     numbers: &[u32],
     origin: u32,
-) -> Taken
+) -> Result<Filled, Refusal>
     requires sheet_value { sheet_shape sheet.old ≡ true }
     requires sound { Sound f (given rules.now steps.now combinators.now properties.now kinds.now numbers.now) }
     ensures { Closes (first_of (group_faults origin)) sheet.old f (given rules.now steps.now combinators.now properties.now kinds.now numbers.now) (group origin none) result sheet.new }
 {
     if 7 < origin {
-        return refused(6, f);
+        return Err(Refusal::CodeOutOfRange);
     }
-    let v = close(
+    close(
         sheet,
         f,
         rules,
@@ -182,11 +184,8 @@ pub fn take_group(
         properties,
         kinds,
         numbers,
-    );
-    if v != 0 {
-        return refused(v, f);
-    }
-    accepted(opened(2, origin))
+    )?;
+    Ok(Filled::opened(OpenKind::Rules(origin)))
 }
 
 pub fn take_end(
@@ -198,12 +197,12 @@ pub fn take_end(
     properties: &[u16],
     kinds: &[u32],
     numbers: &[u32],
-) -> Taken
+) -> Result<Filled, Refusal>
     requires sheet_value { sheet_shape sheet.old ≡ true }
     requires sound { Sound f (given rules.now steps.now combinators.now properties.now kinds.now numbers.now) }
     ensures { Closes 0 sheet.old f (given rules.now steps.now combinators.now properties.now kinds.now numbers.now) nothing result sheet.new }
 {
-    let v = close(
+    close(
         sheet,
         f,
         rules,
@@ -212,9 +211,6 @@ pub fn take_end(
         properties,
         kinds,
         numbers,
-    );
-    if v != 0 {
-        return refused(v, f);
-    }
-    accepted(opened(0, 0))
+    )?;
+    Ok(Filled::opened(OpenKind::Nothing))
 }

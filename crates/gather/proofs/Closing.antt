@@ -24,33 +24,37 @@ use Rattle.builder.specs.Answers.{Pushes}
 use Rattle.made.specs.Made.{Halves}
 use Rattle.made.proofs.Pushed.{style_shaped, group_shaped}
 use Rattle.gather.specs.declared.Filled.{Filled}
-use Rattle.gather.specs.declared.Opening.{Opening}
-use Rattle.gather.specs.declared.Opening.TheVariants.{Nothing, Direct, Rules}
+use Rattle.gather.specs.declared.OpenKind.{OpenKind}
+use Rattle.gather.specs.declared.OpenKind.TheVariants.{Nothing, Direct, Rules}
 use Rattle.gather.specs.Opened.{Open, nothing, direct, group, none, rule_count, entries_given, ids_given, close_verdict, closed}
 use Rattle.gather.specs.Making.{is_direct, direct_faults, group_faults, closing_verdict}
-use Rattle.gather.specs.Memory.{filled_of, open_of, kind_in, origin_in, newly, Roomy, Sound, Closes}
+use Rattle.gather.specs.Memory.{filled_of, open_in, open_of, kind_in, origin_in, newly, Roomy, Sound, Closes}
 use Rattle.gather.proofs.Opening.{open_nothing, open_direct, open_group, kinds, rules_counted, entries_counted}
 
 -- ---- what is pushed
 
 module _ (w : List ℕ) (f : Filled) (m : Group) where
-  pub close_nothing : kind_in f.opening ≡ 0 → Pushes (close_verdict w (open_of f m)) w (closed w (open_of f m)) 0 w
+  open_at : (o : OpenKind) → f.opening ≡ o → open_of f m ≡ open_in o (filled_of f m)
+  unfolding open_of
+  open_at o e = rw e
+
+  pub close_nothing : f.opening ≡ Nothing → Pushes (close_verdict w (open_of f m)) w (closed w (open_of f m)) 0 w
   unfolding close_verdict closed
-  close_nothing k = rw (open_nothing f m k) (record { answer = refl; memory = refl })
+  close_nothing k = rw (open_at Nothing k) (record { answer = refl; memory = refl })
 
-  module _ (s : Sound f m) (r : ℕ) (after : List ℕ) where
-    pub close_direct : kind_in f.opening ≡ 1
-        → Pushes (style_push_verdict w (origin_in f.opening) (take f.entries m.properties) (take f.entries m.kinds) (take f.entries m.numbers) f.entries) w
-        (pushed_style w (origin_in f.opening) (take f.entries m.properties) (take f.entries m.kinds) (take f.entries m.numbers) f.entries) r after
+  module _ (s : Sound f m) (origin r : ℕ) (after : List ℕ) where
+    pub close_direct : f.opening ≡ Direct origin
+        → Pushes (style_push_verdict w origin (take f.entries m.properties) (take f.entries m.kinds) (take f.entries m.numbers) f.entries) w
+        (pushed_style w origin (take f.entries m.properties) (take f.entries m.kinds) (take f.entries m.numbers) f.entries) r after
         → Pushes (close_verdict w (open_of f m)) w (closed w (open_of f m)) r after
     unfolding close_verdict closed
-    close_direct k p = rw (open_direct f m k, entries_counted f m s) p
+    close_direct k p = rw (open_at (Direct origin) k, entries_counted f m s) p
 
-    pub close_rules : kind_in f.opening ≡ 2
-        → Pushes (group_verdict w (origin_in f.opening) (filled_of f m) f.rules) w (pushed_group w (origin_in f.opening) (filled_of f m) f.rules) r after
+    pub close_rules : f.opening ≡ Rules origin
+        → Pushes (group_verdict w origin (filled_of f m) f.rules) w (pushed_group w origin (filled_of f m) f.rules) r after
         → Pushes (close_verdict w (open_of f m)) w (closed w (open_of f m)) r after
     unfolding close_verdict closed
-    close_rules k p = rw (open_group f m k, rules_counted f m s) p
+    close_rules k p = rw (open_at (Rules origin) k, rules_counted f m s) p
 
 -- ---- an accepted one keeps the shape
 
@@ -73,7 +77,7 @@ module _ (w : List ℕ) (f : Filled) (m : Group) (s : Sound f m) (u : Halves m.p
 
 -- ---- what is opened
 
-pub newly_sound : (o : Opening) (m : Group) → Roomy m → Sound (newly o) m
+pub newly_sound : (o : OpenKind) (m : Group) → Roomy m → Sound (newly o) m
 unfolding ids_given selector_of ids_held total
 newly_sound o m r = record {
   room = r;
@@ -136,7 +140,7 @@ module _ (w : List ℕ) (f : Filled) (m : Group) (s : Sound f m) (z : sheet_shap
 
     -- what it opens stands in no lent list yet
     pub closes_opened : Halves m.properties → Pushes (close_verdict w (open_of f m)) w (closed w (open_of f m)) 0 x
-        → (g : Opening) (f' : Filled) → open_of (newly g) m ≡ after → f' ≡ newly g → Closes fault w f m after (Ok f') x
+        → (g : OpenKind) (f' : Filled) → open_of (newly g) m ≡ after → f' ≡ newly g → Closes fault w f m after (Ok f') x
     unfolding closing_verdict
     closes_opened u p g f' a q =
         let c : close_verdict w (open_of f m) ≡ 0 = sym p.answer in

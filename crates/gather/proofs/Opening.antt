@@ -11,8 +11,8 @@ use Rattle.lent.specs.declared.Refusal.{Refusal}
 use Rattle.lent.proofs.Refusals.{refusal_number}
 use Rattle.given.specs.Given.{Group}
 use Rattle.gather.specs.declared.Filled.{Filled}
-use Rattle.gather.specs.declared.Opening.{Opening}
-use Rattle.gather.specs.declared.Opening.TheVariants.{Nothing, Direct, Rules}
+use Rattle.gather.specs.declared.OpenKind.{OpenKind}
+use Rattle.gather.specs.declared.OpenKind.TheVariants.{Nothing, Direct, Rules}
 use Rattle.gather.specs.Opened.{Open, nothing, direct, group, rule_count, entries_given}
 use Rattle.gather.specs.Making.{is_group}
 use Rattle.gather.specs.Memory.{filled_of, open_in, open_of, kind_in, origin_in, Sound, Adds}
@@ -21,22 +21,22 @@ use Rattle.gather.proofs.Filling.{steps_few}
 -- ---- what is open
 
 -- one of the three
-pub kinds : {B : Type 0} (o : Opening) → (kind_in o ≡ 0 → B) → (kind_in o ≡ 1 → B) → (kind_in o ≡ 2 → B) → B
+pub kinds : {B : Type 0} (o : OpenKind) → (kind_in o ≡ 0 → B) → (kind_in o ≡ 1 → B) → (kind_in o ≡ 2 → B) → B
 kinds Nothing a b c = a refl
 kinds (Direct origin) a b c = b refl
 kinds (Rules origin) a b c = c refl
 
-nothing_in : (o : Opening) → kind_in o ≡ 0 → (g : Group) → open_in o g ≡ nothing
+nothing_in : (o : OpenKind) → kind_in o ≡ 0 → (g : Group) → open_in o g ≡ nothing
 nothing_in Nothing e g = refl
 nothing_in (Direct origin) e g = absurd (omega arith)
 nothing_in (Rules origin) e g = absurd (omega arith)
 
-direct_in : (o : Opening) → kind_in o ≡ 1 → (g : Group) → open_in o g ≡ direct (origin_in o) g
+direct_in : (o : OpenKind) → kind_in o ≡ 1 → (g : Group) → open_in o g ≡ direct (origin_in o) g
 direct_in Nothing e g = absurd (omega arith)
 direct_in (Direct origin) e g = refl
 direct_in (Rules origin) e g = absurd (omega arith)
 
-group_in : (o : Opening) → kind_in o ≡ 2 → (g : Group) → open_in o g ≡ group (origin_in o) g
+group_in : (o : OpenKind) → kind_in o ≡ 2 → (g : Group) → open_in o g ≡ group (origin_in o) g
 group_in Nothing e g = absurd (omega arith)
 group_in (Direct origin) e g = absurd (omega arith)
 group_in (Rules origin) e g = refl

@@ -7,8 +7,8 @@ use Rattle.sheet.specs.Shape.{sheet_shape}
 use Rattle.given.specs.Given.{Group, given}
 use Rattle.records.specs.declared.Record.{Record}
 use Rattle.gather.specs.declared.Filled.{Filled}
-use Rattle.gather.specs.declared.Opening.{Opening}
-use Rattle.gather.specs.declared.Opening.TheVariants.{Nothing, Direct, Rules}
+use Rattle.gather.specs.declared.OpenKind.{OpenKind}
+use Rattle.gather.specs.declared.OpenKind.TheVariants.{Nothing, Direct, Rules}
 use Rattle.gather.specs.Opened.{Open, nothing, direct, group, ids_given, last_of, closed}
 use Rattle.gather.specs.Making.{closing_verdict, making_verdict, sheet_after, open_after}
 
@@ -24,7 +24,7 @@ filled_of f m =
     (take f.entries m.numbers)
 
 -- what is open: nothing, a direct style or a group, in these lists
-abbrev pub open_in : Opening → Group → Open
+abbrev pub open_in : OpenKind → Group → Open
 open_in Nothing g = nothing
 open_in (Direct origin) g = direct origin g
 open_in (Rules origin) g = group origin g
@@ -33,18 +33,18 @@ unfoldable pub open_of : Filled → Group → Open
 open_of f m = open_in f.opening (filled_of f m)
 
 -- as a number: nothing (0), a direct style (1), a group (2)
-abbrev pub kind_in : Opening → ℕ
+abbrev pub kind_in : OpenKind → ℕ
 kind_in Nothing = 0
 kind_in (Direct origin) = 1
 kind_in (Rules origin) = 2
 
-abbrev pub origin_in : Opening → ℕ
+abbrev pub origin_in : OpenKind → ℕ
 origin_in Nothing = 0
 origin_in (Direct origin) = origin
 origin_in (Rules origin) = origin
 
 -- what a 2, 3 or 8 opens: no list is filled yet
-abbrev pub newly : Opening → Filled
+abbrev pub newly : OpenKind → Filled
 newly o = record { opening = o; rules = 0; steps = 0; combinators = 0; entries = 0; ids = 0 }
 
 -- the lent lists have room for whatever is accepted

@@ -10,7 +10,7 @@ use lent::Refusal;
 
 // What is open: nothing, or a direct style or a group of rules with its origin.
 #[derive(Clone, Copy, Debug, PartialEq, Eq)]
-pub enum Opening {
+pub enum OpenKind {
     Nothing,
     Direct(u32),
     Rules(u32),
@@ -19,7 +19,7 @@ pub enum Opening {
 // What is open, and how much of each lent list is filled.
 #[derive(Clone, Copy, Debug, PartialEq, Eq)]
 pub struct Filled {
-    pub opening: Opening,
+    pub opening: OpenKind,
     pub rules: usize,
     pub steps: usize,
     pub combinators: usize,
@@ -30,7 +30,7 @@ pub struct Filled {
 
 impl Filled {
     // What a 2, 3 or 8 opens: no list is filled yet.
-    pub fn opened(opening: Opening) -> Filled
+    pub fn opened(opening: OpenKind) -> Filled
         ensures { result ≡ newly opening }
     {
         Filled {
@@ -47,7 +47,7 @@ impl Filled {
 fn probe(f: Filled) -> Result<Filled, Refusal>
     ensures { (m : Group) → Sound f m → Adds 10 f m nothing result m }
 {
-    let Opening::Rules(_) = f.opening else {
+    let OpenKind::Rules(_) = f.opening else {
         return Err(Refusal::BadRecord(0));
     };
     Ok(f)

@@ -9,39 +9,38 @@ use borrow.Author.Tests.{not-true, not-false}
 use Rattle.records.specs.declared.Record.{Record}
 use Rattle.records.specs.Records.{known, kind_of, size_of, is_whole, record_in}
 use Rattle.records.proofs.Records.{size_some, whole_room, whole_kind}
-use Rattle.house.specs.Memory.{Below, Cut}
-
-abbrev pub tells : Bool → Bool → ℕ
-tells known whole = cond known (cond whole 0 1) 2
+use Rattle.house.specs.declared.Found.{Found}
+use Rattle.house.specs.declared.Found.TheVariants.{Whole, Short, Unknown}
+use Rattle.house.specs.Memory.{Below, Cut, found_of}
 
 -- as `front` tells it
-abbrev pub front_of : List ℕ → ℕ
-front_of bytes = tells (known (kind_of bytes)) (is_whole bytes)
+abbrev pub front_of : List ℕ → Found
+front_of bytes = found_of (known (kind_of bytes)) (is_whole bytes)
 
-front_by : (k w : Bool) → (tells k w ≡ 1 → ⊥) → (tells k w ≡ 2 → ⊥) → w ≡ true
-front_by true true n o = refl
-front_by true false n o = absurd (n refl)
-front_by false w n o = absurd (o refl)
+front_by : (k w : Bool) → found_of k w ≡ Whole → w ≡ true
+front_by true true e = refl
+front_by true false e = cc
+front_by false w e = cc
 
-front_none : (k w : Bool) → tells k w ≡ 2 → k ≡ false
-front_none true true e = absurd (omega arith)
-front_none true false e = absurd (omega arith)
+front_none : (k w : Bool) → found_of k w ≡ Unknown → k ≡ false
+front_none true true e = cc
+front_none true false e = cc
 front_none false w e = refl
 
-front_one : (k w : Bool) → (tells k w ≡ 0 → ⊥) → (tells k w ≡ 2 → ⊥) → (k ≡ true) × (w ≡ false)
-front_one true true n o = absurd (n refl)
-front_one true false n o = (refl, refl)
-front_one false w n o = absurd (o refl)
+front_one : (k w : Bool) → found_of k w ≡ Short → (k ≡ true) × (w ≡ false)
+front_one true true e = cc
+front_one true false e = (refl, refl)
+front_one false w e = cc
 
-module _ (bytes : List ℕ) (found : ℕ) (f : found ≡ front_of bytes) where
-  pub front_whole : (found ≡ 1 → ⊥) → (found ≡ 2 → ⊥) → is_whole bytes ≡ true
-  front_whole n o = front_by (known (kind_of bytes)) (is_whole bytes) (λ e. n (f ∙ e)) (λ e. o (f ∙ e))
+module _ (bytes : List ℕ) (found : Found) (f : found ≡ front_of bytes) where
+  pub front_whole : found ≡ Whole → is_whole bytes ≡ true
+  front_whole e = front_by (known (kind_of bytes)) (is_whole bytes) (sym f ∙ e)
 
-  pub front_unknown : found ≡ 2 → known (kind_of bytes) ≡ false
+  pub front_unknown : found ≡ Unknown → known (kind_of bytes) ≡ false
   front_unknown e = front_none (known (kind_of bytes)) (is_whole bytes) (sym f ∙ e)
 
-  pub front_cut : (found ≡ 0 → ⊥) → (found ≡ 2 → ⊥) → Cut bytes
-  front_cut n o = let (k, w) = front_one (known (kind_of bytes)) (is_whole bytes) (λ e. n (f ∙ e)) (λ e. o (f ∙ e)) in record { short = w; begun = λ _. k }
+  pub front_cut : found ≡ Short → Cut bytes
+  front_cut e = let (k, w) = front_one (known (kind_of bytes)) (is_whole bytes) (sym f ∙ e) in record { short = w; begun = λ _. k }
 
 -- no byte is no record
 pub none_cut : (bytes : List ℕ) → length bytes ≤ 0 → Cut bytes
@@ -85,11 +84,11 @@ module _ (bytes : List ℕ) (kind : ℕ) (k : Bool) (q : kind ≡ kind_of bytes)
   is_known : k ≡ known (kind_of bytes)
   is_known = e ∙ rw q
 
-  pub found_none : not k ≡ true → 2 ≡ front_of bytes
+  pub found_none : not k ≡ true → Unknown ≡ front_of bytes
   found_none h = rw (← is_known, not-true k h)
 
-  pub found_cut : (w : Bool) → not k ≡ false → w ≡ is_whole bytes → not w ≡ true → 1 ≡ front_of bytes
+  pub found_cut : (w : Bool) → not k ≡ false → w ≡ is_whole bytes → not w ≡ true → Short ≡ front_of bytes
   found_cut w h f g = rw (← is_known, ← f, not-false k h, not-true w g)
 
-  pub found_whole : (w : Bool) → not k ≡ false → w ≡ is_whole bytes → not w ≡ false → 0 ≡ front_of bytes
+  pub found_whole : (w : Bool) → not k ≡ false → w ≡ is_whole bytes → not w ≡ false → Whole ≡ front_of bytes
   found_whole w h f g = rw (← is_known, ← f, not-false k h, not-false w g)

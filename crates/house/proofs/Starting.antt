@@ -10,14 +10,16 @@ use Rattle.sheet.specs.Laying.{emptied}
 use Rattle.sheet.specs.Shape.{sheet_shape}
 use Rattle.given.specs.Given.{Group}
 use Rattle.laid.proofs.Emptied.{shape_emptied}
-use Rattle.gather.specs.Memory.{Roomy}
-use Rattle.gather.proofs.Closing.{newly, newly_sound}
+use Rattle.gather.specs.declared.OpenKind.TheVariants.{Nothing}
+use Rattle.gather.specs.Memory.{newly, Roomy}
+use Rattle.gather.proofs.Closing.{newly_sound}
 use Rattle.house.specs.declared.Making.{Making}
+use Rattle.house.specs.declared.Stage.TheVariants.{Unbegun}
 use Rattle.house.specs.Memory.{Before}
 
 -- no record yet
 abbrev pub unstarted : Making
-unstarted = record { state = 0; ranking = 0; stamp = 0; verdict = 0; offset = 0; at = 0; filled = newly 0 0 }
+unstarted = record { stage = Unbegun; ranking = 0; stamp = 0; offset = 0; at = 0; filled = newly Nothing }
 
 -- the counts of zeros are written as they are
 zeros_emptied : (n : ℕ) → emptied (replicate (suc (suc (suc (suc (suc (suc (suc n))))))) 0) ≡ replicate (suc (suc (suc (suc (suc (suc (suc n))))))) 0
@@ -32,7 +34,7 @@ start_before g room = record {
   awaits = omega arith;
   zeros = λ _. refl;
   nothing = λ _. refl;
-  sound = newly_sound 0 0 g room (omega arith);
+  sound = newly_sound Nothing g room;
   shape = zeros_shaped;
   ranking = omega arith;
 }

@@ -1,15 +1,21 @@
 -- Records fed in pieces, over lent memory: how far they lead, and what they print. Assumes nothing.
-use Rattle.std.specs.Prelude.{◌≡◌, cond, true, false, List, [], ◌++◌, ℕ, ◌+◌, ◌≤◌, ◌<◌, length, take, drop, replicate, eqb}
+use Rattle.std.specs.Prelude.{◌≡◌, Bool, cond, true, false, List, [], ◌++◌, ℕ, ◌+◌, ◌≤◌, ◌<◌, length, take, drop, replicate, eqb}
+use Rattle.lent.specs.Refusals.{number_of}
 use Rattle.sheet.specs.Layout.{SHEET-WORDS}
 use Rattle.sheet.specs.Shape.{sheet_shape}
 use Rattle.given.specs.Given.{Group}
 use Rattle.table.specs.Tables.{Table}
 use Rattle.records.specs.Records.{known, kind_of, is_whole, record_in}
+use Rattle.gather.specs.declared.OpenKind.TheVariants.{Nothing}
 use Rattle.gather.specs.Memory.{open_of, Roomy, Sound}
 use Rattle.wording.specs.Lines.{refused_line}
 use Rattle.replies.specs.Walking.{walking}
 use Rattle.replies.specs.Memory.{Ready}
 use Rattle.house.specs.declared.Making.{Making}
+use Rattle.house.specs.declared.Stage.{Stage}
+use Rattle.house.specs.declared.Stage.TheVariants.{Unbegun, Begun, Stopped, Done}
+use Rattle.house.specs.declared.Found.{Found}
+use Rattle.house.specs.declared.Found.TheVariants.{Whole, Short, Unknown}
 use Rattle.house.specs.declared.Walked.{Walked}
 use Rattle.house.specs.House.{Phase, first, making, walks, stops, leads, built_of, outcome, reached}
 
@@ -27,35 +33,53 @@ pub record Cut (bytes : List ℕ) : Type 0 where
   pub short : is_whole bytes ≡ false
   pub begun : 1 ≤ length bytes → known (kind_of bytes) ≡ true
 
+-- ---- what stands at the front: a record, the beginning of one, or a byte that is no kind
+
+abbrev pub found_of : Bool → Bool → Found
+found_of known whole = cond known (cond whole Whole Short) Unknown
+
 -- ---- up to kind 8
+
+-- how far the records have come, as a number: none yet (0), a sheet in the making (1), refused (2), the sheet's end (3)
+abbrev pub state_in : Stage → ℕ
+state_in Unbegun = 0
+state_in Begun = 1
+state_in (Stopped refusal) = 2
+state_in Done = 3
+
+-- the refusal's number, 0 for none
+abbrev pub verdict_in : Stage → ℕ
+verdict_in Unbegun = 0
+verdict_in Begun = 0
+verdict_in (Stopped refusal) = number_of refusal
+verdict_in Done = 0
 
 -- the phase, by the state: 0 none yet, else in the making
 unfoldable pub phase_of : Making → List ℕ → Group → Phase
-phase_of m w g = cond (eqb m.state 0) first (making w (open_of m.filled g) m.ranking m.stamp)
+phase_of m w g = cond (eqb (state_in m.stage) 0) first (making w (open_of m.filled g) m.ranking m.stamp)
 
 -- what the records before have left
 pub record Before (m : Making) (w : List ℕ) (g : Group) : Type 0 where
-  pub awaits : m.state ≤ 1
-  pub zeros : m.state ≡ 0 → w ≡ replicate SHEET-WORDS 0
-  pub nothing : m.state ≡ 0 → m.filled.kind ≡ 0
+  pub awaits : state_in m.stage ≤ 1
+  pub zeros : state_in m.stage ≡ 0 → w ≡ replicate SHEET-WORDS 0
+  pub nothing : state_in m.stage ≡ 0 → m.filled.opening ≡ Nothing
   pub sound : Sound m.filled g
   pub shape : sheet_shape w ≡ true
   pub ranking : m.ranking ≤ 1
 
 -- what may come next: a record (states 0 and 1), the walk (3)
 pub record Stands (m : Making) (w : List ℕ) (g : Group) : Type 0 where
-  pub before : m.state ≤ 1 → Before m w g
-  pub ready : m.state ≡ 3 → (sheet_shape w ≡ true) × (m.ranking ≤ 1)
-  pub known : m.state ≤ 3
+  pub before : state_in m.stage ≤ 1 → Before m w g
+  pub ready : state_in m.stage ≡ 3 → (sheet_shape w ≡ true) × (m.ranking ≤ 1)
   pub room : Roomy g
 
 -- the phase of the record that comes next, or that was refused: the walk at the sheet's end (3), `start` where none was taken
 unfoldable pub phase_left : ℕ → Phase → Making → List ℕ → Group → Phase
-phase_left room start m w g = cond (eqb m.state 3) (walks (built_of room w m.ranking m.stamp)) (cond (eqb m.at 0) start (phase_of m w g))
+phase_left room start m w g = cond (eqb (state_in m.stage) 3) (walks (built_of room w m.ranking m.stamp)) (cond (eqb m.at 0) start (phase_of m w g))
 
 -- none was taken: nothing is changed, except that the first may be refused
 pub record Still (m : Making) (w : List ℕ) (g : Group) (m' : Making) (w' : List ℕ) (g' : Group) : Type 0 where
-  pub state : (m'.state ≡ 2 → ⊥) → m'.state ≡ m.state
+  pub state : (state_in m'.stage ≡ 2 → ⊥) → state_in m'.stage ≡ state_in m.stage
   pub ranking : m'.ranking ≡ m.ranking
   pub stamp : m'.stamp ≡ m.stamp
   pub filled : m'.filled ≡ m.filled
@@ -68,16 +92,16 @@ pub record MadeSoFar (input : List ℕ) (m : Making) (w : List ℕ) (g : Group) 
   pub place : m.offset + m'.at < 18446744073709551616 → m'.offset ≡ m.offset + m'.at
   pub reaches : (room : ℕ) → m.offset + m'.at < 18446744073709551616
       → reached room (phase_of m w g) m.offset (take m'.at input) ≡ leads [] (phase_left room (phase_of m w g) m' w' g')
-  pub refused : m'.state ≡ 2 → (room : ℕ) → Refused room (phase_left room (phase_of m w g) m' w' g') m'.offset (drop m'.at input) m'.verdict
-  pub quiet : (m'.state ≡ 2 → ⊥) → m'.verdict ≡ m.verdict
+  pub refused : state_in m'.stage ≡ 2 → (room : ℕ) → Refused room (phase_left room (phase_of m w g) m' w' g') m'.offset (drop m'.at input) verdict_in m'.stage
+  pub quiet : (state_in m'.stage ≡ 2 → ⊥) → verdict_in m'.stage ≡ verdict_in m.stage
   pub still : m'.at ≡ 0 → Still m w g m' w' g'
-  pub first : m'.state ≡ 0 → m'.at ≡ 0
+  pub first : state_in m'.stage ≡ 0 → m'.at ≡ 0
   pub stands : Stands m' w' g'
 
 -- and more is awaited only where there is none to take
 pub record FedSheet (input : List ℕ) (m : Making) (w : List ℕ) (g : Group) (m' : Making) (w' : List ℕ) (g' : Group) : Type 0 where
   pub made : MadeSoFar input m w g m' w' g'
-  pub cut : m'.state ≤ 1 → Cut (drop m'.at input)
+  pub cut : state_in m'.stage ≤ 1 → Cut (drop m'.at input)
 
 -- ---- after kind 8
 

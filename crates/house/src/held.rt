@@ -1,20 +1,22 @@
 // Offsets, whether a record is at hand, and whether the input is over.
-ghost use Rattle.std.specs.Prelude.{◌≡◌, cond, ◌&&◌, ◌+◌, ◌<◌, eqb, ltb};
+ghost use Rattle.std.specs.Prelude.{◌≡◌, ◌&&◌, ◌+◌, ◌<◌, eqb, ltb};
 ghost use Rattle.records.specs.Records.{known, kind_of, is_whole};
+ghost use Rattle.house.specs.Memory.{found_of};
 
+use crate::Found;
 use records::held::{is_known, is_whole, kind_of};
 
-// What stands at the front of bytes: a record (0), the beginning of one (1), or none (2).
-pub fn front(bytes: &[u8]) -> u32
-    ensures { result ≡ cond (known (kind_of bytes.now)) (cond (is_whole bytes.now) 0 1) 2 }
+// What stands at the front of bytes; of none, the beginning of a record.
+pub fn front(bytes: &[u8]) -> Found
+    ensures { result ≡ found_of (known (kind_of bytes.now)) (is_whole bytes.now) }
 {
     if !is_known(kind_of(bytes)) {
-        return 2;
+        return Found::Unknown;
     }
     if !is_whole(bytes) {
-        return 1;
+        return Found::Short;
     }
-    0
+    Found::Whole
 }
 
 // An offset, n bytes on; inputs are below 2^64 bytes, and past that it stays.

@@ -29,7 +29,7 @@ feeds_reads h f = record { have = omega arith; before = f.before; ready = f.read
 -- the sheet takes more
 pub record Turning (size : ℕ) (r : Reading) (w : List ℕ) (g : Group) : Type 0 where
   pub reads : Reads size r w g
-  pub awaits : r.making.state ≤ 1
+  pub awaits : state_in r.making.stage ≤ 1
 
 pub turning_start : {size : ℕ} {r : Reading} {w : List ℕ} {g : Group}
     → (r.have ≡ 0) × ((g : Group) → Roomy g → Before r.making (replicate SHEET-WORDS 0) g)
@@ -52,7 +52,7 @@ reads_size {r = r} {w} {g} e t = subst (λ (k : ℕ). Reads k r w g) e t
 pub turning_next : {n size : ℕ} {r : Reading} {w : List ℕ} {g : Group} {done : Bool}
     → n ≡ size
     → Reads n r w g
-    → (done ≡ false → r.making.state ≤ 1)
+    → (done ≡ false → state_in r.making.stage ≤ 1)
     → done ≡ false
     → Turning size r w g
 turning_next e t h d = record { reads = reads_size e t; awaits = h d }

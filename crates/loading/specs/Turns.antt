@@ -9,11 +9,11 @@ use Rattle.loading.specs.declared.held.Reading.{Reading}
 -- n bytes fed: what the next call requires, or what the walk does
 pub record Feeds (n : ℕ) (m : Making) (w : List ℕ) (g : Group) : Type 0 where
   pub within : m.at ≤ n
-  pub before : m.state ≤ 1 → Before m w g
-  pub ready : m.state ≡ 3 → (sheet_shape w ≡ true) × (m.ranking ≤ 1)
+  pub before : state_in m.stage ≤ 1 → Before m w g
+  pub ready : state_in m.stage ≡ 3 → (sheet_shape w ≡ true) × (m.ranking ≤ 1)
 
 -- the sheet's part of the input: as many bytes at hand as the buffer has room for, and the same
 pub record Reads (size : ℕ) (r : Reading) (w : List ℕ) (g : Group) : Type 0 where
   pub have : r.have ≤ size
-  pub before : r.making.state ≤ 1 → Before r.making w g
-  pub ready : r.making.state ≡ 3 → (sheet_shape w ≡ true) × (r.making.ranking ≤ 1)
+  pub before : state_in r.making.stage ≤ 1 → Before r.making w g
+  pub ready : state_in r.making.stage ≡ 3 → (sheet_shape w ≡ true) × (r.making.ranking ≤ 1)

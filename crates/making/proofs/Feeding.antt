@@ -7,18 +7,25 @@ use native.Mathlib.Omega.{arith}
 use native.Mathlib.Decide.{ℕ_discrete}
 use lib.ListN.{length, take, drop, length-drop}
 use borrow.Author.Tests.{eq-eqb, ne_eqb, not-true, not-false}
+use Rattle.std.specs.Prelude.{Result}
+use Rattle.lent.specs.declared.Refusal.{Refusal}
+use Rattle.lent.specs.declared.Refusal.TheVariants.{BadRecord}
 use Rattle.lent.proofs.Pool.{rest_all}
 use Rattle.given.specs.Given.{Group}
 use Rattle.records.specs.declared.Record.{Record}
 use Rattle.records.specs.Records.{kind_of, size_of, is_whole, record_in, Narrow}
 use Rattle.records.proofs.Records.{size_some, whole_room}
-use Rattle.gather.specs.declared.Taken.{Taken}
+use Rattle.gather.specs.declared.Filled.{Filled}
 use Rattle.gather.specs.Memory.{Takes}
 use Rattle.house.specs.declared.Making.{Making}
+use Rattle.house.specs.declared.Stage.{Stage}
+use Rattle.house.specs.declared.Stage.TheVariants.{Stopped}
+use Rattle.house.specs.declared.Found.{Found}
+use Rattle.house.specs.declared.Found.TheVariants.{Whole, Short, Unknown}
 use Rattle.house.specs.House.{Phase, leads, outcome, printing, reached_in, reached}
-use Rattle.house.specs.Memory.{Refused, phase_of, Before, phase_left, MadeSoFar, FedSheet}
+use Rattle.house.specs.Memory.{Refused, state_in, verdict_in, phase_of, Before, phase_left, MadeSoFar, FedSheet}
 use Rattle.house.specs.Memory.Refused.{whole, unknown}
-use Rattle.making.specs.Taking.{refusing, moved, next_phase, Took, Past, TookFront, Ahead, ItemAt, Opens, GoesOn}
+use Rattle.making.specs.Taking.{staged, refusing, moved, next_phase, Took, Past, TookFront, Ahead, ItemAt, Opens, GoesOn}
 use Rattle.house.proofs.Front.{front_of, front_whole, front_unknown, front_cut, none_cut, rested, item_known, item_room}
 use Rattle.house.proofs.Walk.{reached_next}
 use Rattle.making.proofs.Taking.{moved_before, did_refused, did_on, front_taken}
@@ -30,40 +37,40 @@ unfolding phase_left
 feed_start input start w g b = record {
   within = omega arith;
   place = λ _. omega arith;
-  reaches = λ room h. rw (ne_eqb start.state 3 (λ e. omega (arith, b.awaits))) (unfold reached_in in refl);
+  reaches = λ room h. rw (ne_eqb (state_in start.stage) 3 (λ e. omega (arith, b.awaits))) (unfold reached_in in refl);
   refused = λ e. absurd (omega (arith, b.awaits));
   quiet = λ _. refl;
   still = λ _. record { state = λ _. refl; ranking = refl; stamp = refl; filled = refl; sheet = refl; lists = refl };
   first = λ _. refl;
-  stands = record { before = λ _. moved_before start.offset 0 b; ready = λ e. absurd (omega (arith, b.awaits)); known = omega (arith, b.awaits); room = b.sound.room };
+  stands = record { before = λ _. moved_before start.offset 0 b; ready = λ e. absurd (omega (arith, b.awaits)); room = b.sound.room };
 }
 
-module _ {input : List ℕ} {start : Making} {w₀ : List ℕ} {g₀ : Group} {m : Making} {w : List ℕ} {g : Group} (f : MadeSoFar input start w₀ g₀ m w g) (waits : m.state ≤ 1) where
+module _ {input : List ℕ} {start : Making} {w₀ : List ℕ} {g₀ : Group} {m : Making} {w : List ℕ} {g : Group} (f : MadeSoFar input start w₀ g₀ m w g) (waits : state_in m.stage ≤ 1) where
   -- more records of the sheet are awaited
   pub phase_here : (room : ℕ) → phase_left room (phase_of start w₀ g₀) m w g ≡ phase_of m w g
   phase_here room = elim (ℕ_discrete m.at 0) [
     | yes z ↦ let s = f.still z in
-        unfold phase_left phase_of in rw (ne_eqb m.state 3 (λ e. omega arith), eq-eqb m.at 0 z, s.state (λ e. omega arith), s.filled, s.ranking, s.stamp, s.sheet, s.lists)
-    | no n ↦ unfold phase_left in rw (ne_eqb m.at 0 n, ne_eqb m.state 3 (λ e. omega arith))
+        unfold phase_left phase_of in rw (ne_eqb (state_in m.stage) 3 (λ e. omega arith), eq-eqb m.at 0 z, s.state (λ e. omega arith), s.filled, s.ranking, s.stamp, s.sheet, s.lists)
+    | no n ↦ unfold phase_left in rw (ne_eqb m.at 0 n, ne_eqb (state_in m.stage) 3 (λ e. omega arith))
   ]
 
   -- a refused one leaves it
-  phase_refused : (room v : ℕ) → phase_left room (phase_of start w₀ g₀) m w g ≡ phase_left room (phase_of start w₀ g₀) (refusing m v) w g
-  phase_refused room v = elim (ℕ_discrete m.at 0) [
-    | yes z ↦ unfold phase_left in rw (ne_eqb m.state 3 (λ e. omega arith), eq-eqb m.at 0 z)
-    | no n ↦ unfold phase_left phase_of in rw (ne_eqb m.at 0 n, ne_eqb m.state 3 (λ e. omega arith), ne_eqb m.state 0 (λ e. n (f.first e)))
+  phase_refused : (room : ℕ) (s : Stage) → state_in s ≡ 2 → phase_left room (phase_of start w₀ g₀) m w g ≡ phase_left room (phase_of start w₀ g₀) (staged m s) w g
+  phase_refused room s e = elim (ℕ_discrete m.at 0) [
+    | yes z ↦ unfold phase_left in rw (e, ne_eqb (state_in m.stage) 3 (λ e. omega arith), eq-eqb m.at 0 z)
+    | no n ↦ unfold phase_left phase_of in rw (e, ne_eqb m.at 0 n, ne_eqb (state_in m.stage) 3 (λ e. omega arith), ne_eqb (state_in m.stage) 0 (λ e. n (f.first e)))
   ]
 
-  made_refused : (v : ℕ) → ((room : ℕ) → Refused room (phase_of m w g) m.offset (drop m.at input) v) → MadeSoFar input start w₀ g₀ (refusing m v) w g
-  made_refused v r = record {
+  made_refused : (s : Stage) → state_in s ≡ 2 → ((room : ℕ) → Refused room (phase_of m w g) m.offset (drop m.at input) (verdict_in s)) → MadeSoFar input start w₀ g₀ (staged m s) w g
+  made_refused s e r = record {
     within = f.within;
     place = f.place;
-    reaches = λ room h. f.reaches room h ∙ rw (phase_refused room v);
-    refused = λ _ room. rw (← phase_refused room v, phase_here room) (r room);
-    quiet = λ n. absurd (n refl);
-    still = λ z. let s = f.still z in record { state = λ n. absurd (n refl); ranking = s.ranking; stamp = s.stamp; filled = s.filled; sheet = s.sheet; lists = s.lists };
-    first = λ e. absurd (omega arith);
-    stands = record { before = λ h. absurd (omega arith); ready = λ h. absurd (omega arith); known = omega arith; room = f.stands.room };
+    reaches = λ room h. f.reaches room h ∙ rw (phase_refused room s e);
+    refused = λ _ room. rw (← phase_refused room s e, phase_here room) (r room);
+    quiet = λ n. absurd (n e);
+    still = λ z. let t = f.still z in record { state = λ n. absurd (n e); ranking = t.ranking; stamp = t.stamp; filled = t.filled; sheet = t.sheet; lists = t.lists };
+    first = λ z. absurd (omega (arith, e, z));
+    stands = record { before = λ h. absurd (omega (arith, e, h)); ready = λ h. absurd (omega (arith, e, h)); room = f.stands.room };
   }
 
   -- a record more
@@ -77,14 +84,14 @@ module _ {input : List ℕ} {start : Making} {w₀ : List ℕ} {g₀ : Group} {m
     fits : m.at + size ≤ length input
     fits = omega (arith, whole_room rest whole_here, length-drop m.at input, f.within, size_some (kind_of rest))
 
-    one_refused : m'.state ≡ 2 → MadeSoFar input start w₀ g₀ m' w' g'
+    one_refused : state_in m'.stage ≡ 2 → MadeSoFar input start w₀ g₀ m' w' g'
     one_refused e =
         let (a, b, c) = t.done.keeps e in
         let o : m'.offset ≡ m.offset = ap (λ (x : Making). x.offset) a in
         subst (λ (x : Making). MadeSoFar input start w₀ g₀ x w' g') (sym a)
-        (rw (b, c) (made_refused m'.verdict (λ room. whole whole_here (t.done.does room ∙ did_refused room m' w' g' e ∙ rw o))))
+        (rw (b, c) (made_refused m'.stage e (λ room. whole whole_here (t.done.does room ∙ did_refused room m' w' g' e ∙ rw o))))
 
-    module _ (n : m'.state ≡ 2 → ⊥) where
+    module _ (n : state_in m'.stage ≡ 2 → ⊥) where
       one_place : start.offset + m'.at < 18446744073709551616 → m'.offset ≡ start.offset + m'.at
       one_place h =
           let a = t.goes n in
@@ -119,10 +126,10 @@ module _ {input : List ℕ} {start : Making} {w₀ : List ℕ} {g₀ : Group} {m
       }
 
     feed_one : MadeSoFar input start w₀ g₀ m' w' g'
-    feed_one = elim (ℕ_discrete m'.state 2) [ yes e ↦ one_refused e | no n ↦ one_accepted n ]
+    feed_one = elim (ℕ_discrete (state_in m'.stage) 2) [ yes e ↦ one_refused e | no n ↦ one_accepted n ]
 
-    feed_falls : m.at < length input → 3 * (length input - m'.at) + (2 - m'.state) < 3 * (length input - m.at) + (2 - m.state)
-    feed_falls h = elim (ℕ_discrete m'.state 2) [
+    feed_falls : m.at < length input → 3 * (length input - m'.at) + (2 - state_in m'.stage) < 3 * (length input - m.at) + (2 - state_in m.stage)
+    feed_falls h = elim (ℕ_discrete (state_in m'.stage) 2) [
       | yes e ↦ omega (arith, ap (λ (x : Making). x.at) (t.done.keeps e).0)
       | no n ↦ omega (arith, t.goes n, fits, size_some (kind_of rest))
     ]
@@ -131,19 +138,19 @@ module _ {input : List ℕ} {start : Making} {w₀ : List ℕ} {g₀ : Group} {m
 
 -- what stands ahead
 module _ (input : List ℕ) (m : Making) where
-  pub ahead_stops : 1 < m.state → Ahead input m 1
-  ahead_stops h = record { takes = λ z. absurd (omega arith); unknown = λ z. absurd (omega arith); cut = λ _ _ l. absurd (omega arith) }
+  pub ahead_stops : 1 < state_in m.stage → Ahead input m Short
+  ahead_stops h = record { takes = λ z. cc; unknown = λ z. cc; cut = λ _ l. absurd (omega arith) }
 
-  pub ahead_ends : length input ≤ m.at → Ahead input m 1
-  ahead_ends h = record { takes = λ z. absurd (omega arith); unknown = λ z. absurd (omega arith); cut = λ _ _ l. none_cut (drop m.at input) (rw length-drop (omega arith)) }
+  pub ahead_ends : length input ≤ m.at → Ahead input m Short
+  ahead_ends h = record { takes = λ z. cc; unknown = λ z. cc; cut = λ _ l. none_cut (drop m.at input) (rw length-drop (omega arith)) }
 
-  pub ahead_front : (found : ℕ) → m.state ≤ 1 → m.at < length input → found ≡ front_of (rested input m.at) → Ahead input m found
+  pub ahead_front : (found : Found) → state_in m.stage ≤ 1 → m.at < length input → found ≡ front_of (rested input m.at) → Ahead input m found
   ahead_front found s l e =
       let q : found ≡ front_of (drop m.at input) = rw (rest_all input m.at) at e in
       record {
-        takes = λ z. (s, l, front_whole (drop m.at input) found q (λ o. omega (arith, z, o)) (λ o. omega (arith, z, o)));
+        takes = λ z. (s, l, front_whole (drop m.at input) found q z);
         unknown = λ u. (s, l, front_unknown (drop m.at input) found q u);
-        cut = λ n o _. front_cut (drop m.at input) found q n o;
+        cut = λ n _. front_cut (drop m.at input) found q n;
       }
 
 module _ (input : List ℕ) (at : ℕ) (w : is_whole (drop at input) ≡ true) where
@@ -160,7 +167,7 @@ module _ (input : List ℕ) (start : Making) (w₀ : List ℕ) (g₀ : Group) (b
   abbrev here : Making
   here = moved start start.offset 0
 
-  pub open_later : (start.state ≡ 0 → ⊥) → Opens input start w₀ g₀ here w₀
+  pub open_later : (state_in start.stage ≡ 0 → ⊥) → Opens input start w₀ g₀ here w₀
   open_later n = record { made = feed_start input start w₀ g₀ b; later = λ z. absurd (n z) }
 
   module _ (k : Bool) (e : k ≡ is_whole input) where
@@ -174,38 +181,38 @@ module _ (input : List ℕ) (start : Making) (w₀ : List ℕ) (g₀ : Group) (b
         record { made = feed_one (feed_start input start w₀ g₀ b) b.awaits (sym e ∙ not-false k h) o; later = λ s. absurd (o.done.some s) }
 
 -- From a place on: what led there leads here, the first record was taken if it could be, and this stands ahead
-pub record Turns (input : List ℕ) (m₀ : Making) (w₀ : List ℕ) (g₀ : Group) (m : Making) (w : List ℕ) (g : Group) (found : ℕ) : Type 0 where
+pub record Turns (input : List ℕ) (m₀ : Making) (w₀ : List ℕ) (g₀ : Group) (m : Making) (w : List ℕ) (g : Group) (found : Found) : Type 0 where
   pub leads_on_lem : (s : Making) (v : List ℕ) (h : Group) → MadeSoFar input s v h m₀ w₀ g₀ → MadeSoFar input s v h m w g
-  pub later : m.state ≡ 0 → is_whole (drop m.at input) ≡ false
+  pub later : state_in m.stage ≡ 0 → is_whole (drop m.at input) ≡ false
   pub ahead : Ahead input m found
 
 module _ {input : List ℕ} {start : Making} {w₀ : List ℕ} {g₀ : Group} {m₁ : Making} {w₁ : List ℕ} (o : Opens input start w₀ g₀ m₁ w₁) where
-  pub turns_start : {found : ℕ} → Ahead input m₁ found → Turns input m₁ w₁ g₀ m₁ w₁ g₀ found
+  pub turns_start : {found : Found} → Ahead input m₁ found → Turns input m₁ w₁ g₀ m₁ w₁ g₀ found
   turns_start a = record { leads_on_lem = λ s v h f. f; later = o.later; ahead = a }
 
-  module _ {m : Making} {w : List ℕ} {g : Group} {found : ℕ} (f : Turns input m₁ w₁ g₀ m w g found) where
+  module _ {m : Making} {w : List ℕ} {g : Group} {found : Found} (f : Turns input m₁ w₁ g₀ m w g found) where
     made_here : MadeSoFar input start w₀ g₀ m w g
     made_here = f.leads_on_lem start w₀ g₀ o.made
 
     -- a turn
-    module _ (z : found ≡ 0) where
+    module _ (z : found ≡ Whole) where
       pub turn_before : Before m w g
       turn_before = made_here.stands.before (f.ahead.takes z).0
 
-      turn_state : m.state ≡ 1
-      turn_state = elim (ℕ_discrete m.state 0) [
+      turn_state : state_in m.stage ≡ 1
+      turn_state = elim (ℕ_discrete (state_in m.stage) 0) [
         | yes e ↦ absurd (true≢false (sym (f.ahead.takes z).2 ∙ f.later e))
         | no n ↦ omega (arith, (f.ahead.takes z).0)
       ]
 
-      module _ {item : Record} (i : ItemAt input m.at item) {t : Taken} {w' : List ℕ} {g' : Group} (k : Takes w m.filled g item t w' g') {m' : Making} (y : GoesOn m item t m') where
+      module _ {item : Record} (i : ItemAt input m.at item) {t : Result Filled Refusal} {w' : List ℕ} {g' : Group} (k : Takes w m.filled g item t w' g') {m' : Making} (y : GoesOn m item t m') where
         took : TookFront m w g (drop m.at input) m' w' g'
         took = y.goes w g w' g' (drop m.at input) turn_before turn_state i.read k
 
-        pub turn_falls : 3 * (length input - m'.at) + (2 - m'.state) < 3 * (length input - m.at) + (2 - m.state)
+        pub turn_falls : 3 * (length input - m'.at) + (2 - state_in m'.stage) < 3 * (length input - m.at) + (2 - state_in m.stage)
         turn_falls = feed_falls made_here (f.ahead.takes z).0 (f.ahead.takes z).2 took (f.ahead.takes z).1
 
-        pub turn_one : {found' : ℕ} → Ahead input m' found' → Turns input m₁ w₁ g₀ m' w' g' found'
+        pub turn_one : {found' : Found} → Ahead input m' found' → Turns input m₁ w₁ g₀ m' w' g' found'
         turn_one a = record {
           leads_on_lem = λ s v h l. feed_one (f.leads_on_lem s v h l) (f.ahead.takes z).0 (f.ahead.takes z).2 took;
           later = λ s. absurd (took.done.some s);
@@ -213,12 +220,18 @@ module _ {input : List ℕ} {start : Making} {w₀ : List ℕ} {g₀ : Group} {m
         }
 
     -- none to take
-    pub turns_end : (found ≡ 0 → ⊥) → {m' : Making} → (found ≡ 2 → m' ≡ refusing m 10) × ((found ≡ 2 → ⊥) → m' ≡ m) → FedSheet input start w₀ g₀ m' w g
-    turns_end n {m'} q = elim (ℕ_discrete found 2) [
-      | yes u ↦ let (s, l, e) = f.ahead.unknown u in
-          subst (λ (x : Making). FedSheet input start w₀ g₀ x w g) (sym (q.0 u)) (record {
-            made = made_refused made_here s 10 (λ room. unknown (rw length-drop (omega arith)) e refl);
-            cut = λ h. absurd (omega arith);
-          })
-      | no u ↦ subst (λ (x : Making). FedSheet input start w₀ g₀ x w g) (sym (q.1 u)) (record { made = made_here; cut = f.ahead.cut n u })
-    ]
+    pub turns_end : (found ≡ Whole → ⊥) → {m' : Making} → (found ≡ Unknown → m' ≡ refusing m (BadRecord m.offset)) × ((found ≡ Unknown → ⊥) → m' ≡ m) → FedSheet input start w₀ g₀ m' w g
+    turns_end n {m'} q = by found refl
+      where
+        by : (x : Found) → found ≡ x → FedSheet input start w₀ g₀ m' w g
+        by Whole e = absurd (n e)
+        by Short e = subst (λ (x : Making). FedSheet input start w₀ g₀ x w g) (sym (q.1 (λ u. unseen (sym e ∙ u)))) (record { made = made_here; cut = f.ahead.cut e })
+          where
+            unseen : Short ≡ Unknown → ⊥
+            unseen u = cc
+        by Unknown u =
+            let (s, l, e) = f.ahead.unknown u in
+            subst (λ (x : Making). FedSheet input start w₀ g₀ x w g) (sym (q.0 u)) (record {
+              made = made_refused made_here s (Stopped (BadRecord m.offset)) refl (λ room. unknown (rw length-drop (omega arith)) e refl);
+              cut = λ h. absurd (omega arith);
+            })

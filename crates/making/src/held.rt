@@ -2,50 +2,60 @@
 ghost use Rattle.std.specs.Prelude.{◌≡◌, cond, true, ◌+◌, ◌≤◌, ◌<◌, length, drop, eqb};
 ghost use Rattle.given.specs.Given.{Group, given};
 ghost use Rattle.records.specs.Records.{size_of, is_whole};
-ghost use Rattle.house.specs.Memory.{Before, FedSheet};
-ghost use Rattle.making.specs.Taking.{refusing, Took, Past, Ahead, ItemAt, Opens, GoesOn};
+ghost use Rattle.house.specs.Memory.{state_in, Before, FedSheet};
+ghost use Rattle.making.specs.Taking.{placed, refusing, Took, Past, Ahead, ItemAt, Opens, GoesOn};
 
-use gather::Taken;
-use house::Making;
+use gather::Filled;
+use house::{Found, Making, Stage};
 use house::held::{front, further};
+use lent::Refusal;
 use lent::words::copy_into;
 use records::Record;
 use records::held::{is_whole, record_in, size_of};
 use taking::held::take;
 
-fn refused(m: Making, verdict: u32) -> Making
-    ensures { result ≡ refusing m verdict }
+// The refusal of a record at this offset.
+fn placed(refusal: Refusal, offset: u64) -> Refusal
+    ensures { result ≡ placed refusal offset }
+{
+    match refusal {
+        Refusal::BadRecord(_) => Refusal::BadRecord(offset),
+        other => other,
+    }
+}
+
+fn refused(m: Making, refusal: Refusal) -> Making
+    ensures { result ≡ refusing m refusal }
 {
     Making {
-        state: 2,
-        verdict,
+        stage: Stage::Stopped(placed(refusal, m.offset)),
         ..m
     }
 }
 
 // "1 sheet, first and once"
 fn begin(m: Making, item: Record, sheet: &mut [u32]) -> Making
-    ensures { (result.at ≡ m.at) × ((g : Group) → Before m sheet.old g → m.state ≡ 0 → Took m sheet.old g item result sheet.new g) }
+    ensures { (result.at ≡ m.at) × ((g : Group) → Before m sheet.old g → state_in m.stage ≡ 0 → Took m sheet.old g item result sheet.new g) }
 {
     if item.kind != 1 {
-        return refused(m, 10);
+        return refused(m, Refusal::BadRecord(m.offset));
     }
     if 1 < item.first {
-        return refused(m, 6);
+        return refused(m, Refusal::CodeOutOfRange);
     }
     copy_into(sheet, 0, &[0u32; 7]);
     Making {
-        state: 1,
+        stage: Stage::Begun,
         ranking: item.first,
         stamp: item.second,
         ..m
     }
 }
 
-fn state_after(kind: u32) -> u32
-    ensures { result ≡ cond (eqb kind 8) 3 1 }
+fn stage_after(kind: u32) -> Stage
+    ensures { result ≡ cond (eqb kind 8) Stage.Done Stage.Begun }
 {
-    if kind == 8 { 3 } else { 1 }
+    if kind == 8 { Stage::Done } else { Stage::Begun }
 }
 
 // Past a record that was accepted.
@@ -53,7 +63,7 @@ fn past(m: Making, size: usize) -> Making
     requires { m.at + size < 18446744073709551616 }
     ensures { Past m size result }
 {
-    if m.state == 2 {
+    if let Stage::Stopped(_) = m.stage {
         return m;
     }
     Making {
@@ -63,18 +73,20 @@ fn past(m: Making, size: usize) -> Making
     }
 }
 
-// What stands ahead in a piece: a record to take (0), none (1), or a byte that is no kind (2).
-fn ahead(input: &[u8], m: Making) -> u32
+// What stands ahead in a piece: nothing is, once the sheet has ended or a record was refused.
+fn ahead(input: &[u8], m: Making) -> Found
     ensures { Ahead input.now m result }
 {
-    if 1 < m.state {
-        return 1;
+    match m.stage {
+        Stage::Stopped(_) | Stage::Done => Found::Short,
+        Stage::Unbegun | Stage::Begun => {
+            let at = m.at;
+            if input.len() <= at {
+                return Found::Short;
+            }
+            front(&input[at..])
+        }
     }
-    let at = m.at;
-    if input.len() <= at {
-        return 1;
-    }
-    front(&input[at..])
 }
 
 // The record that stands ahead.
@@ -90,9 +102,9 @@ fn open(input: &[u8], start: Making, sheet: &mut [u32]) -> Making
     ensures { (g : Group) → Before start sheet.old g → Opens input.now start sheet.old g result sheet.new }
 {
     let m = Making { at: 0, ..start };
-    if m.state != 0 {
+    let Stage::Unbegun = m.stage else {
         return m;
-    }
+    };
     if !is_whole(input) {
         return m;
     }
@@ -102,30 +114,31 @@ fn open(input: &[u8], start: Making, sheet: &mut [u32]) -> Making
 }
 
 // After a record that isn't the first: what was said of it decides.
-fn go_on(m: Making, item: Record, taken: Taken) -> Making
+fn go_on(m: Making, item: Record, taken: Result<Filled, Refusal>) -> Making
     requires { (item.kind ≤ 12) × (m.at + size_of item.kind < 18446744073709551616) }
     ensures { GoesOn m item taken result }
 {
-    if taken.verdict != 0 {
-        return refused(m, taken.verdict);
+    match taken {
+        Err(refusal) => refused(m, refusal),
+        Ok(filled) => {
+            let after = Making {
+                stage: stage_after(item.kind),
+                filled,
+                ..m
+            };
+            past(after, size_of(item.kind))
+        }
     }
-    let next = taken.filled;
-    let after = Making {
-        state: state_after(item.kind),
-        filled: next,
-        ..m
-    };
-    past(after, size_of(item.kind))
 }
 
 // A byte that is no kind is refused.
-fn end(m: Making, found: u32) -> Making
-    ensures { (found ≡ 2 → result ≡ refusing m 10) × ((found ≡ 2 → ⊥) → result ≡ m) }
+fn end(m: Making, found: Found) -> Making
+    ensures { (found ≡ Found.Unknown → result ≡ refusing m (Refusal.BadRecord m.offset)) × ((found ≡ Found.Unknown → ⊥) → result ≡ m) }
 {
-    if found == 2 {
-        return refused(m, 10);
+    match found {
+        Found::Unknown => refused(m, Refusal::BadRecord(m.offset)),
+        _ => m,
     }
-    m
 }
 
 // The records of a piece, up to the end of the sheet, a refusal, or what is not whole.
@@ -145,7 +158,7 @@ pub fn feed_sheet(
 {
     let mut m = open(input, start, sheet);
     let mut found = ahead(input, m);
-    while found == 0 {
+    while let Found::Whole = found {
         let item = item_at(input, m.at);
         let filled = m.filled;
         let taken = take(

@@ -8,8 +8,8 @@ ghost use Rattle.gather.specs.Memory.{open_of, Sound, Adds, Takes};
 
 use adding::held::{take_entry, take_requirement, take_rule, take_step};
 use closing::held::{take_direct, take_end, take_group};
-use gather::held::refused;
-use gather::{Filled, Taken};
+use gather::Filled;
+use lent::Refusal;
 use records::Record;
 
 // Kinds 4 to 7; any other is misplaced.
@@ -23,7 +23,7 @@ fn take_added(
     kinds: &mut [u32],
     numbers: &mut [u32],
     item: Record,
-) -> Taken
+) -> Result<Filled, Refusal>
     requires sheet_value { sheet_shape sheet.now ≡ true }
     requires sound { Sound f (given rules.old steps.old combinators.old properties.old kinds.old numbers.old) }
     requires narrow { Narrow item }
@@ -82,7 +82,7 @@ fn take_added(
             item.third,
         );
     }
-    refused(10, f)
+    Err(Refusal::BadRecord(0))
 }
 
 // A record after the first, up to kind 8.
@@ -96,7 +96,7 @@ pub fn take(
     kinds: &mut [u32],
     numbers: &mut [u32],
     item: Record,
-) -> Taken
+) -> Result<Filled, Refusal>
     requires sheet_value { sheet_shape sheet.old ≡ true }
     requires sound { Sound f (given rules.old steps.old combinators.old properties.old kinds.old numbers.old) }
     requires narrow { Narrow item }

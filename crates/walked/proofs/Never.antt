@@ -35,7 +35,7 @@ use Rattle.house.proofs.Never.{build_never_refused}
 -- THE THEOREM: where the records have come to kind 8, the sheet is built, whatever room there is for transitions
 pub build_has_room : {input : List ℕ} {m : Making} {w : List ℕ} {g : Group} {m' : Making} {w' : List ℕ} {g' : Group} (room : ℕ)
     → FedSheet input m w g m' w' g'
-    → m'.state ≡ 3
+    → state_in m'.stage ≡ 3
     → build_verdict w' m'.ranking (lent_table room).states (lent_table room).cursors ≡ 0
 build_has_room {m' = m'} {w' = w'} room f e = let (shape, ranks) = f.made.stands.ready e in build_never_refused w' m'.ranking room shape ranks
 

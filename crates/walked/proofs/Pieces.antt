@@ -39,7 +39,7 @@ module _ (room : ℕ) where
   -- before kind 8 the end is always one too early
   ends_early : (m : Making) (w : List ℕ) (g : Group) → ending (phase_of m w g) m.offset ≡ refused_line 10 m.offset
   unfolding phase_of
-  ends_early m w g = by (eqb m.state 0)
+  ends_early m w g = by (eqb (state_in m.stage) 0)
     where
       by : (b : Bool) → ending (cond b first (making w (open_of m.filled g) m.ranking m.stamp)) m.offset ≡ refused_line 10 m.offset
       by true = refl
@@ -83,7 +83,7 @@ module _ (room : ℕ) where
       let (h, p, c) = reach_place m.offset m'.offset m'.at input more b x.within x.place in
       (walk_on room (phase_of m w g) m.offset m'.at input more (x.reaches room h) x.within m'.offset p, c)
 
-  sheet_ready : (start : Phase) (m : Making) (w : List ℕ) (g : Group) → m.state ≡ 3 → phase_left room start m w g ≡ walks (built_of room w m.ranking m.stamp)
+  sheet_ready : (start : Phase) (m : Making) (w : List ℕ) (g : Group) → state_in m.stage ≡ 3 → phase_left room start m w g ≡ walks (built_of room w m.ranking m.stamp)
   unfolding phase_left
   sheet_ready start m w g e = rw e
 
@@ -105,7 +105,7 @@ module _ (room : ℕ) where
   sheet_run b (comes-to-end {m = m} {w = w} {g = g} left h) = rw (append-nil left) (cut_short (phase_of m w g) m.offset left (ends_early m w g) h)
 
 -- THE THEOREM: whatever the lengths of the pieces, what is printed is what `walk_of` says of the whole input
-pub pieces_print : (room : ℕ) (m : Making) (w : List ℕ) (g : Group) → m.state ≡ 0 → m.offset ≡ 0 → (pieces : List (List ℕ)) (printed : List ℕ) → Below 0 (flatten pieces)
+pub pieces_print : (room : ℕ) (m : Making) (w : List ℕ) (g : Group) → state_in m.stage ≡ 0 → m.offset ≡ 0 → (pieces : List (List ℕ)) (printed : List ℕ) → Below 0 (flatten pieces)
     → SheetRun room m w g [] pieces printed → printed ≡ walk_of room (flatten pieces)
 unfolding phase_of
 pieces_print room m w g e o pieces printed b run = sym (rw (e, o) at (sheet_run room (rw o b) run))

@@ -30,16 +30,16 @@ module _ (room : ℕ) where
   pub data SheetRun : Making → List ℕ → Group → List ℕ → List (List ℕ) → List ℕ → Type 0 where
     goes : {m : Making} {w : List ℕ} {g : Group} {left : List ℕ} (piece : List ℕ) {pieces : List (List ℕ)} (m' : Making) (w' : List ℕ) (g' : Group) {printed : List ℕ}
         → FedSheet (left ++ piece) m w g m' w' g'
-        → m'.state ≤ 1
+        → state_in m'.stage ≤ 1
         → SheetRun m' w' g' (drop m'.at (left ++ piece)) pieces printed
         → SheetRun m w g left (piece ∷ pieces) printed
     refused : {m : Making} {w : List ℕ} {g : Group} {left : List ℕ} (piece : List ℕ) {pieces : List (List ℕ)} (m' : Making) (w' : List ℕ) (g' : Group)
         → FedSheet (left ++ piece) m w g m' w' g'
-        → m'.state ≡ 2
-        → SheetRun m w g left (piece ∷ pieces) (refused_line m'.verdict m'.offset)
+        → state_in m'.stage ≡ 2
+        → SheetRun m w g left (piece ∷ pieces) (refused_line (verdict_in m'.stage) m'.offset)
     ready : {m : Making} {w : List ℕ} {g : Group} {left : List ℕ} (piece : List ℕ) {pieces : List (List ℕ)} (m' : Making) (w' : List ℕ) (g' : Group) {printed : List ℕ}
         → FedSheet (left ++ piece) m w g m' w' g'
-        → m'.state ≡ 3
+        → state_in m'.stage ≡ 3
         → WalkRun w' m'.offset (built w' m'.stamp m'.ranking (lent_table room)) (empty_row 16) (drop m'.at (left ++ piece)) pieces printed
         → SheetRun m w g left (piece ∷ pieces) printed
     over : {m : Making} {w : List ℕ} {g : Group} (left : List ℕ) → is_whole left ≡ false → SheetRun m w g left [] (refused_line 10 m.offset)

@@ -37,4 +37,4 @@ slice_bounds-push_rules-end-6 c =
 
 pub returns : goal.returns
 returns c =
-    close_rules c.args.sheet.now _ _ c.requires.sound _ _ c.requires.sheet_value.1 c.push_rules.ensures
+    close_rules c.args.sheet.now _ _ c.requires.sound c.args.origin _ _ c.requires.sheet_value.1 c.push_rules.ensures

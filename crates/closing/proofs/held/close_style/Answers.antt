@@ -21,4 +21,4 @@ slice_bounds-push_style-end-3 c =
 
 pub returns : goal.returns
 returns c =
-    close_direct c.args.sheet.now _ _ c.requires.sound _ _ c.requires.sheet_value.1 c.push_style.ensures
+    close_direct c.args.sheet.now _ _ c.requires.sound c.args.origin _ _ c.requires.sheet_value.1 c.push_style.ensures

@@ -3,8 +3,8 @@ use mathlib.Core.Path.{refl}
 use Rattle.gather.proofs.Closing.{newly_nothing, closes_refused, closes_opened}
 use Rattle.closing.proofs.held.take_end.Goals as goal
 
-pub returns-then-v-ne0 : goal.returns-then-v-ne0
-returns-then-v-ne0 c =
+pub returns-in_err-close : goal.returns-in_err-close
+returns-in_err-close c =
     closes_refused c.args.sheet.now _ _ c.requires.sound c.requires.sheet_value _ _ _ _ _ refl c.close-v.ensures c.if-v-ne0.true c.refused.ensures
 
 pub returns : goal.returns

@@ -6,8 +6,8 @@ pub returns-then-origin-gt7 : goal.returns-then-origin-gt7
 returns-then-origin-gt7 c =
     closes_faulty c.args.sheet.now _ _ c.requires.sound c.requires.sheet_value _ _ _ 6 (group_origin c.args.origin c.if-origin-gt7.true) (omega arith) c.refused.ensures
 
-pub returns-then-v-ne0 : goal.returns-then-v-ne0
-returns-then-v-ne0 c =
+pub returns-in_err-close : goal.returns-in_err-close
+returns-in_err-close c =
     closes_refused c.args.sheet.now _ _ c.requires.sound c.requires.sheet_value _ _ _ _ _ (group_fine c.args.origin c.if-origin-gt7.false) c.close-v.ensures c.if-v-ne0.true c.refused-then-v-ne0.ensures
 
 pub returns : goal.returns
