@@ -9,7 +9,7 @@ use lib.ListN.{take, length-take, get_or-eq_default}
 use lib.Seq.{get_or-take}
 use lib.Dec.{eqb, ltb}
 use borrow.Author.Tests.{ne_eqb, lt-ltb, le-ltb}
-use Rattle.std.specs.Prelude.{Ok, Err}
+use Rattle.std.specs.Prelude.{Result, Ok, Err}
 use Rattle.lent.specs.Refusals.{number_of, first_of}
 use Rattle.lent.specs.declared.Refusal.{Refusal}
 use Rattle.lent.proofs.Refusals.{refusal_number, first_hit, first_pass, first_end}
@@ -124,19 +124,20 @@ module _ (w : List ℕ) (f : Filled) (m : Group) (s : Sound f m) (z : sheet_shap
 
   module _ (x : List ℕ) (o : 0 ≡ fault) where
     -- what it closes is refused
-    pub closes_refused : (e : Refusal) → Pushes (close_verdict w (open_of f m)) w (closed w (open_of f m)) (number_of e) x → Closes fault w f m after (Err e) x
+    pub closes_refused : (r : Result Filled Refusal) (e : Refusal) → r ≡ Err e → Pushes (close_verdict w (open_of f m)) w (closed w (open_of f m)) (number_of e) x
+        → Closes fault w f m after r x
     unfolding closing_verdict
-    closes_refused e p =
+    closes_refused r e t p =
         let n : eqb (number_of e) 0 ≡ false = ne_eqb (number_of e) 0 (refusal_number e) in
         let x_is : x ≡ w = p.memory ∙ rw (← p.answer, n) in
-        record {
+        rw t (record {
           answer = rw (← o, ← p.answer);
           sheet = rw (← o, ← p.answer, n) x_is;
           opens = λ y. absurd (refusal_number e y);
           keeps = λ _. refl;
           sound = s;
           shape = rw x_is z;
-        }
+        })
 
     -- what it opens stands in no lent list yet
     pub closes_opened : Halves m.properties → Pushes (close_verdict w (open_of f m)) w (closed w (open_of f m)) 0 x

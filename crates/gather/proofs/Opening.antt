@@ -26,6 +26,17 @@ kinds Nothing a b c = a refl
 kinds (Direct origin) a b c = b refl
 kinds (Rules origin) a b c = c refl
 
+-- a kind that a `match` has ruled out
+pub not_direct : (o : OpenKind) → ((origin : ℕ) → o ≡ Direct origin → ⊥) → kind_in o ≡ 1 → ⊥
+not_direct Nothing n e = absurd (omega arith)
+not_direct (Direct origin) n e = n origin refl
+not_direct (Rules origin) n e = absurd (omega arith)
+
+pub not_rules : (o : OpenKind) → ((origin : ℕ) → o ≡ Rules origin → ⊥) → kind_in o ≡ 2 → ⊥
+not_rules Nothing n e = absurd (omega arith)
+not_rules (Direct origin) n e = absurd (omega arith)
+not_rules (Rules origin) n e = n origin refl
+
 nothing_in : (o : OpenKind) → kind_in o ≡ 0 → (g : Group) → open_in o g ≡ nothing
 nothing_in Nothing e g = refl
 nothing_in (Direct origin) e g = absurd (omega arith)

@@ -2,11 +2,7 @@
 #![tactic(auto)]
 
 ghost use Rattle.std.specs.Prelude.{◌≡◌};
-ghost use Rattle.given.specs.Given.{Group};
-ghost use Rattle.gather.specs.Opened.{nothing};
-ghost use Rattle.gather.specs.Memory.{newly, Sound, Adds};
-
-use lent::Refusal;
+ghost use Rattle.gather.specs.Memory.{newly};
 
 // What is open: nothing, or a direct style or a group of rules with its origin.
 #[derive(Clone, Copy, Debug, PartialEq, Eq)]
@@ -42,13 +38,4 @@ impl Filled {
             ids: 0,
         }
     }
-}
-
-fn probe(f: Filled) -> Result<Filled, Refusal>
-    ensures { (m : Group) → Sound f m → Adds 10 f m nothing result m }
-{
-    let OpenKind::Rules(_) = f.opening else {
-        return Err(Refusal::BadRecord(0));
-    };
-    Ok(f)
 }

@@ -6,12 +6,14 @@ use Prim.Native.Nat.{ℕ}
 use native.Mathlib.Omega.{arith}
 use lib.Dec.{eqb}
 use borrow.Author.Tests.{ne_eqb}
+use Rattle.std.specs.Prelude.{Result, Err}
 use Rattle.lent.specs.Refusals.{first_of}
+use Rattle.lent.specs.declared.Refusal.{Refusal}
+use Rattle.lent.specs.declared.Refusal.TheVariants.{BadRecord}
 use Rattle.sheet.specs.Shape.{sheet_shape}
 use Rattle.given.specs.Given.{Group}
 use Rattle.records.specs.declared.Record.{Record}
 use Rattle.gather.specs.declared.Filled.{Filled}
-use Rattle.gather.specs.declared.Taken.{Taken}
 use Rattle.gather.specs.Opened.{Open, nothing, direct, group, none, with_rule, with_step, with_requirement, with_entry}
 use Rattle.gather.specs.Making.{direct_faults, group_faults, rule_faults, step_faults, requirement_faults, entry_faults, closes, closing_fault, in_group, added_fault, added_to, making_verdict, sheet_after, open_after}
 use Rattle.gather.specs.Memory.{open_of, Sound, Adds, Closes, Takes}
@@ -19,7 +21,7 @@ use Rattle.gather.proofs.Opening.{adds_refused}
 
 -- ---- kinds 4 to 7
 
-module _ (w : List ℕ) (f : Filled) (m : Group) (item : Record) (r : Taken) (m' : Group) where
+module _ (w : List ℕ) (f : Filled) (m : Group) (item : Record) (r : Result Filled Refusal) (m' : Group) where
   pub adds_rule : item.kind ≡ 4 → Adds (first_of (rule_faults w (open_of f m))) f m (in_group with_rule (open_of f m)) r m'
       → Adds (added_fault w (open_of f m) item) f m (added_to (open_of f m) item) r m'
   unfolding added_fault added_to
@@ -42,16 +44,16 @@ module _ (w : List ℕ) (f : Filled) (m : Group) (item : Record) (r : Taken) (m'
   adds_entry k a = rw k a
 
 -- any other is misplaced
-pub adds_misplaced : (w : List ℕ) (f : Filled) (m : Group) (item : Record) (r : Taken) → Sound f m
+pub adds_misplaced : (w : List ℕ) (f : Filled) (m : Group) (item : Record) (r : Result Filled Refusal) → Sound f m
     → (item.kind ≡ 4 → ⊥) → (item.kind ≡ 5 → ⊥) → (item.kind ≡ 6 → ⊥) → (item.kind ≡ 7 → ⊥)
-    → r ≡ record { verdict = 10; filled = f } → Adds (added_fault w (open_of f m) item) f m (added_to (open_of f m) item) r m
+    → r ≡ Err (BadRecord 0) → Adds (added_fault w (open_of f m) item) f m (added_to (open_of f m) item) r m
 unfolding added_fault added_to
 adds_misplaced w f m item r s a b c d e =
-    rw (ne_eqb item.kind 4 a, ne_eqb item.kind 5 b, ne_eqb item.kind 6 c, ne_eqb item.kind 7 d) (adds_refused s refl (omega arith) e)
+    rw (ne_eqb item.kind 4 a, ne_eqb item.kind 5 b, ne_eqb item.kind 6 c, ne_eqb item.kind 7 d) (adds_refused s refl e refl)
 
 -- ---- any kind
 
-module _ (w : List ℕ) (f : Filled) (m : Group) (item : Record) (r : Taken) (x : List ℕ) where
+module _ (w : List ℕ) (f : Filled) (m : Group) (item : Record) (r : Result Filled Refusal) (x : List ℕ) where
   -- of a kind that closes: its own fault, and what it opens
   takes_closing : {fault : ℕ} {after : Open} → closes item ≡ true → fault ≡ closing_fault w (open_of f m) item → after ≡ open_after (open_of f m) item
       → Closes fault w f m after r x → Takes w f m item r x m
@@ -81,7 +83,7 @@ cond_same : {A : Type 0} (b : Bool) (a : A) → a ≡ cond b a a
 cond_same true a = refl
 cond_same false a = refl
 
-module _ (w : List ℕ) (f : Filled) (m : Group) (item : Record) (r : Taken) (m' : Group) where
+module _ (w : List ℕ) (f : Filled) (m : Group) (item : Record) (r : Result Filled Refusal) (m' : Group) where
   pub takes_added : (item.kind ≡ 2 → ⊥) → (item.kind ≡ 3 → ⊥) → (item.kind ≡ 8 → ⊥) → sheet_shape w ≡ true
       → Adds (added_fault w (open_of f m) item) f m (added_to (open_of f m) item) r m' → Takes w f m item r w m'
   unfolding making_verdict sheet_after open_after

@@ -1,3 +1,4 @@
+use mathlib.Core.Path.{refl}
 use Rattle.adding.proofs.Entries.{count_asked, entry_added}
 use Rattle.adding.proofs.held.put_entry.Goals as goal
 
@@ -7,4 +8,4 @@ count_entry-requires c =
 
 pub returns : goal.returns
 returns c =
-    entry_added c.args.sheet.now _ _ _ _ _ _ _ c.requires.sound c.args.property c.args.kind c.args.number c.requires.kind_value c.requires.property_bound.2 _ c.accepted.ensures _ _ _ _ c.count_entry.ensures c.half.ensures c.put.ensures c.put-2.ensures
+    entry_added c.args.sheet.now _ _ _ _ _ _ _ c.requires.sound c.args.property c.args.kind c.args.number c.requires.kind_value c.requires.property_bound.2 _ refl _ _ _ _ c.count_entry.ensures c.half.ensures c.put.ensures c.put-2.ensures

@@ -16,7 +16,7 @@ returns-then-item_over c =
     let s = c.requires.sound in
     let i = c.requires.numbers_value.0 in
     let e = row_copied _ _ s i _ _ _ refl c.part.ensures c.copy_into.ensures in
-    item_refused _ _ s i _ e c.args.sheet.now c.args.which c.args.id c.requires.numbers_value.1 _ (sym c.item_over.ensures ∙ c.if-item_over.true) c.refused.ensures
+    item_refused _ _ s i _ e c.args.sheet.now c.args.which c.args.id c.requires.numbers_value.1 _ (sym c.item_over.ensures ∙ c.if-item_over.true) refl
 
 pub held_ids-requires : goal.held_ids-requires
 held_ids-requires c =
@@ -66,11 +66,11 @@ returns-then-wide-ids-gt8192 c =
     let s = c.requires.sound in
     let i = c.requires.numbers_value.0 in
     let e = row_copied _ _ s i _ _ _ refl c.part.ensures c.copy_into.ensures in
-    ids_refused _ _ s i _ e c.args.which c.args.id (sym c.item_over.ensures ∙ c.if-item_over.false) _ c.put_item.ensures _ _ c.held_ids.ensures c.held_ids-2.ensures c.args.sheet.now c.requires.numbers_value.1 _ _ (c.wide.ensures ∙ c.word.ensures) c.if-wide-ids-gt8192.true c.refused-then-wide-ids-gt8192.ensures
+    ids_refused _ _ s i _ e c.args.which c.args.id (sym c.item_over.ensures ∙ c.if-item_over.false) _ c.put_item.ensures _ _ c.held_ids.ensures c.held_ids-2.ensures c.args.sheet.now c.requires.numbers_value.1 _ _ (c.wide.ensures ∙ c.word.ensures) c.if-wide-ids-gt8192.true refl
 
 pub returns : goal.returns
 returns c =
     let s = c.requires.sound in
     let i = c.requires.numbers_value.0 in
     let e = row_copied _ _ s i _ _ _ refl c.part.ensures c.copy_into.ensures in
-    required _ _ s i _ e c.args.which c.args.id (sym c.item_over.ensures ∙ c.if-item_over.false) _ c.put_item.ensures _ _ c.held_ids.ensures c.held_ids-2.ensures c.args.sheet.now c.requires.numbers_value.1 _ _ (c.wide.ensures ∙ c.word.ensures) c.if-wide-ids-gt8192.false c.accepted.ensures _ c.copy_into-2.ensures
+    required _ _ s i _ e c.args.which c.args.id (sym c.item_over.ensures ∙ c.if-item_over.false) _ c.put_item.ensures _ _ c.held_ids.ensures c.held_ids-2.ensures c.args.sheet.now c.requires.numbers_value.1 _ _ (c.wide.ensures ∙ c.word.ensures) c.if-wide-ids-gt8192.false refl _ c.copy_into-2.ensures
