@@ -8,17 +8,18 @@ use native.Mathlib.Omega.{arith}
 use lib.ListN.{length, get_or, take, length-append}
 use lib.Seq.{length-sets, take-suc, take_all}
 use borrow.Author.Tests.{le-leb}
+use Rattle.std.specs.Prelude.{Option as Optional, Some, None}
 use Rattle.theory.proofs.Lists.{flat_map_append}
 use Rattle.theory.proofs.Spreads.{flat_map_one}
 use Rattle.theory.specs.Cascade.{Key}
 use Rattle.lent.proofs.Placing.{sets_append}
 use Rattle.lines.specs.Text.{Laid, LaidNumber}
 use Rattle.sheet.specs.Sheets.{style_at, rule_at}
-use Rattle.keys.specs.declared.CascadeEntryKey.{CascadeEntryKey}
 use Rattle.winners.specs.Winners.{Place, style, rule, key_at}
-use Rattle.winners.specs.Best.{place_in, Stands}
+use Rattle.winners.specs.Best.{place_of, place_in, Stands}
 use Rattle.winners.specs.declared.Best.{Best}
-use Rattle.winners.specs.declared.Best.TheVariants as best
+use Rattle.winners.specs.declared.Source.{Source}
+use Rattle.winners.specs.declared.Source.TheVariants as source
 use Rattle.wording.specs.Lines.{decimal, spaced, listed, REFUSED, AT, STATE, MATCHED, CHANGED, WINNER, NONE, DIRECT, RULE, SOURCE, END, refused_line, state_line, changed_line, source_text, winner_line, Said}
 use Rattle.wording.proofs.Decimal.{digits_are, decimal_short}
 
@@ -123,32 +124,33 @@ module _ {b : List ℕ} {at : ℕ} where
   rule_said number index p q r s = said_then p (said_then q (said_then r s))
 
 -- the text of whatever source stands there
-abbrev pub Tells : Best → List ℕ → ℕ → ℕ → List ℕ → Type 0
+abbrev pub Tells : Optional Best → List ℕ → ℕ → ℕ → List ℕ → Type 0
 Tells won b at r e = (w : List ℕ) (ranking p : ℕ) (o : Option Place) → Stands w ranking p o won → Said (source_text w o) b at r e
 
 abbrev source_in : Option Key → ℕ
 source_in none = 0
 source_in (some k) = k.source
 
-module _ {won : Best} {b : List ℕ} {at r : ℕ} {e : List ℕ} where
-  pub nobody_said : won ≡ best.Nobody → Said NONE b at r e → Tells won b at r e
+module _ {won : Optional Best} {b : List ℕ} {at r : ℕ} {e : List ℕ} where
+  pub nobody_said : won ≡ None → Said NONE b at r e → Tells won b at r e
   nobody_said q s w ranking p o u = let f : o ≡ none = sym u.place ∙ ap place_in q in rw f s
 
-  pub style_said : {d : ℕ} {k : CascadeEntryKey} → won ≡ best.Style d k → Said (DIRECT ++ decimal k.source_index) b at r e → Tells won b at r e
-  unfolding key_at
-  style_said {d} {k} q s w ranking p o u =
-      let f : o ≡ some (style d) = sym u.place ∙ ap place_in q in
-      let g : k.source_index ≡ (style_at w d).source = rw (f, q) at (ap source_in u.key) in
-      rw (f, ← g) s
+  module _ {x : Best} (i : won ≡ Some x) where
+    pub style_said : {d : ℕ} → x.source ≡ source.Style d → Said (DIRECT ++ decimal x.key.source_index) b at r e → Tells won b at r e
+    unfolding key_at
+    style_said {d} q s w ranking p o u =
+        let f : o ≡ some (style d) = sym u.place ∙ ap place_in i ∙ ap (λ (y : Source). some (place_of y)) q in
+        let g : x.key.source_index ≡ (style_at w d).source = rw (f, i) at (ap source_in u.key) in
+        rw (f, ← g) s
 
-  pub listed_rule_said : {n : ℕ} {k : CascadeEntryKey} → won ≡ best.Rule n k → Said (RULE ++ (decimal n ++ (SOURCE ++ decimal k.source_index))) b at r e → Tells won b at r e
-  unfolding key_at
-  listed_rule_said {n} {k} q s w ranking p o u =
-      let f : o ≡ some (rule n) = sym u.place ∙ ap place_in q in
-      let g : k.source_index ≡ (rule_at w n).source = rw (f, q) at (ap source_in u.key) in
-      rw (f, ← g) s
+    pub listed_rule_said : {n : ℕ} → x.source ≡ source.Rule n → Said (RULE ++ (decimal n ++ (SOURCE ++ decimal x.key.source_index))) b at r e → Tells won b at r e
+    unfolding key_at
+    listed_rule_said {n} q s w ranking p o u =
+        let f : o ≡ some (rule n) = sym u.place ∙ ap place_in i ∙ ap (λ (y : Source). some (place_of y)) q in
+        let g : x.key.source_index ≡ (rule_at w n).source = rw (f, i) at (ap source_in u.key) in
+        rw (f, ← g) s
 
-pub winner_said : {won : Best} {b : List ℕ} (property : ℕ) {at r₁ r₂ r₃ r₄ : ℕ} {m₁ m₂ m₃ m₄ : List ℕ}
+pub winner_said : {won : Optional Best} {b : List ℕ} (property : ℕ) {at r₁ r₂ r₃ r₄ : ℕ} {m₁ m₂ m₃ m₄ : List ℕ}
     → Said WINNER b at r₁ m₁ → Said (decimal property) m₁ r₁ r₂ m₂ → Tells won m₂ r₂ r₃ m₃ → Said END m₃ r₃ r₄ m₄
     → (w : List ℕ) (ranking p : ℕ) (o : Option Place) → Stands w ranking p o won → Said (winner_line w property o) b at r₄ m₄
 unfolding winner_line

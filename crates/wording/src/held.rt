@@ -1,11 +1,11 @@
 // Lines laid into a buffer that has room for them.
 ghost use Rattle.std.specs.Prelude.{◌≡◌, List, ◌++◌, ℕ, ◌+◌, ◌*◌, ◌≤◌, length};
-ghost use Rattle.std.proofs.Math.Option.{Option};
+ghost use Rattle.std.proofs.Math.Option.{Option as Maybe};
 ghost use Rattle.winners.specs.Winners.{Place};
 ghost use Rattle.winners.specs.Best.{Stands};
 ghost use Rattle.wording.specs.Lines.{decimal, spaced, listed, DIRECT, RULE, SOURCE, refused_line, state_line, changed_line, source_text, winner_line, Said, Room};
 
-use winners::Best;
+use winners::{Best, Source};
 
 fn text(out: &mut [u8], at: usize, words: &[u8]) -> usize
     requires { at + length words.now ≤ length out.old }
@@ -104,20 +104,23 @@ fn rule(out: &mut [u8], at: usize, number: u32, index: u32) -> usize
     small(out, c, index)
 }
 
-fn source(out: &mut [u8], at: usize, best: Best) -> usize
+fn source(out: &mut [u8], at: usize, best: Option<Best>) -> usize
     requires { at + 55 ≤ length out.old }
-    ensures { ((w : List ℕ) (ranking p : ℕ) (o : Option Place) → Stands w ranking p o best → Said (source_text w o) out.old at result out.new) × (result ≤ at + 55) }
+    ensures { ((w : List ℕ) (ranking p : ℕ) (o : Maybe Place) → Stands w ranking p o best → Said (source_text w o) out.old at result out.new) × (result ≤ at + 55) }
 {
-    match best {
-        Best::Nobody => text(out, at, b": none"),
-        Best::Style(_, key) => direct(out, at, key.source_index),
-        Best::Rule(number, key) => rule(out, at, number, key.source_index),
+    let Some(best) = best else {
+        return text(out, at, b": none");
+    };
+    let index = best.key.source_index;
+    match best.source {
+        Source::Style(_) => direct(out, at, index),
+        Source::Rule(number) => rule(out, at, number, index),
     }
 }
 
-pub fn winner(out: &mut [u8], at: usize, property: u32, best: Best) -> usize
+pub fn winner(out: &mut [u8], at: usize, property: u32, best: Option<Best>) -> usize
     requires { Room at out.old }
-    ensures { (w : List ℕ) (ranking p : ℕ) (o : Option Place) → Stands w ranking p o best → Said (winner_line w property o) out.old at result out.new }
+    ensures { (w : List ℕ) (ranking p : ℕ) (o : Maybe Place) → Stands w ranking p o best → Said (winner_line w property o) out.old at result out.new }
 {
     let a = text(out, at, b"winner ");
     let b = small(out, a, property);
