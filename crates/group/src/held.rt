@@ -95,11 +95,9 @@ fn put_selector(sheet: &mut [u32], s: usize, steps: &[u32], combinators: &[u32],
     requires { (s ≤ 2048) × (n ≤ 8) × (all_below n (λ (k : ℕ). row_fits 8 steps.now (22 * k)) ≡ true) × ((j : ℕ) → j < n → code_before combinators.now j ≤ 1) }
     ensures { sheet.new ≡ sets sheet.old (step_place s) (flat_map step_words (selector_of steps.now combinators.now n)) }
 {
-    let mut j = 0;
-    while j < n {
+    for j in 0..n {
         let code = code_before(combinators, j);
         put_step(sheet, (s + j) as u32, steps, 22 * j, code);
-        j += 1;
     }
 }
 
@@ -117,8 +115,7 @@ fn put_steps(
 {
     let mut p = 0;
     let mut c = 0;
-    let mut k = 0;
-    while k < n {
+    for k in 0..n {
         let i = 3 * k;
         let count = wide(word(rules, i));
         put_selector(
@@ -130,7 +127,6 @@ fn put_steps(
         );
         p += count;
         c += wide(word(rules, i + 1));
-        k += 1;
     }
 }
 
@@ -150,8 +146,7 @@ fn put_rule_rows(
 {
     let mut step_end = s;
     let mut entry_end = e;
-    let mut k = 0;
-    while k < n {
+    for k in 0..n {
         let i = 3 * k;
         step_end += wide(word(rules, i));
         entry_end += wide(word(rules, i + 2));
@@ -164,7 +159,6 @@ fn put_rule_rows(
             step_end as u32,
             entry_end as u32,
         );
-        k += 1;
     }
 }
 
@@ -174,10 +168,8 @@ fn third_sum(rules: &[u32], which: usize, n: usize) -> usize
     ensures { result ≡ sum_below (λ (k : ℕ). get_or rules.now (3 * k + which) 0) n }
 {
     let mut sum = 0;
-    let mut k = 0;
-    while k < n {
+    for k in 0..n {
         sum += wide(word(rules, 3 * k + which));
-        k += 1;
     }
     sum
 }
@@ -189,12 +181,10 @@ fn id_sum(rules: &[u32], n: usize, steps: &[u32], combinators: &[u32]) -> usize
 {
     let mut sum = 0;
     let mut p = 0;
-    let mut k = 0;
-    while k < n {
+    for k in 0..n {
         let count = wide(word(rules, 3 * k));
         sum += held_ids(rest(steps, 22 * p), count);
         p += count;
-        k += 1;
     }
     sum
 }

@@ -3,7 +3,7 @@ use mathlib.Core.Path.{◌≡◌, refl, sym, ◌∙◌}
 use mathlib.Core.Bool.{Bool, true, false, cond, not, ◌&&◌}
 use mathlib.Core.List.{List, [], ◌∷◌, ◌++◌, map}
 use mathlib.Core.Logic.{inl, inr}
-use Prim.Native.Nat.{ℕ, zero, suc, ◌+◌, ◌≤◌, ◌<◌}
+use Prim.Native.Nat.{ℕ, zero, suc, ◌+◌, ◌≤◌, ◌<◌, max}
 use native.Mathlib.Omega.{arith}
 use lib.Dec.{ltb, leb, eqb}
 use borrow.Author.Tests.{lt-ltb, le-ltb, le-leb, lt-leb, ne_eqb}
@@ -46,6 +46,10 @@ larger_assoc a b c =
     let e = below_both (larger a b) c (larger a (larger b c)) (below_both a b (larger a (larger b c)) (omega arith) (omega arith)) (omega arith) in
     omega (arith, d, e)
 
+-- what `max` answers
+larger_max : (a b : ℕ) → max a b ≡ larger a b
+larger_max a b = elim (le_or_lt b a) [ inl l ↦ rw (le-ltb a b l) (omega arith) | inr l ↦ rw (lt-ltb a b l) (omega arith) ]
+
 -- ---- the largest of a list
 
 largest_one : (a : ℕ) → largest (a ∷ []) ≡ a
@@ -72,12 +76,9 @@ module _ {f : ℕ → ℕ} {n k most : ℕ} (m : Most f n k most) where
       let z : 0 + k ≡ k = omega arith in
       rw (spread_snoc f 0 k, z, largest_append (spread f 0 k) (f k ∷ []), largest_one (f k), ← m.same)
 
-  -- x is the next number, and y the most after it
-  pub most_next : (x y : ℕ) → k < n → x ≡ f k → most < x → y ≡ x → Most f n (k + 1) y
-  most_next x y h e l g = record { within = omega arith; same = g ∙ (e ∙ sym (most_more ∙ larger_right most (f k) (omega arith))) }
-
-  pub most_kept : (x y : ℕ) → k < n → x ≡ f k → x ≤ most → y ≡ most → Most f n (k + 1) y
-  most_kept x y h e l g = record { within = omega arith; same = g ∙ sym (most_more ∙ larger_left most (f k) (omega arith)) }
+  -- x is the next number
+  pub most_next : (x : ℕ) → k < n → x ≡ f k → Most f n (k + 1) (max most x)
+  most_next x h e = record { within = omega arith; same = rw e (larger_max most (f k)) ∙ sym most_more }
 
   pub most_end : n ≤ k → most ≡ largest (spread f 0 n)
   most_end h = let e : n ≡ k = omega (arith, m.within) in rw e m.same
@@ -96,11 +97,8 @@ module _ (v : List ℕ) (a b x y : ℕ)
   both : largest (indexes_of (sheet_of v)) ≡ larger a b
   both = rw (e, f, g, h, indexes_are v) (largest_append _ _)
 
-  pub index_right : a < b → b ≡ largest (indexes_of (sheet_of v))
-  index_right l = sym (both ∙ larger_right a b l)
-
-  pub index_left : b ≤ a → a ≡ largest (indexes_of (sheet_of v))
-  index_left l = sym (both ∙ larger_left a b l)
+  pub index_is : (r : ℕ) → r ≡ max a b → r ≡ largest (indexes_of (sheet_of v))
+  index_is r h = h ∙ larger_max a b ∙ sym both
 
 spread_none : (f g : ℕ → ℕ) (m n : ℕ) → m ≡ 0 → eqb n 0 ≡ is_nil (spread f 0 m ++ spread g 0 n)
 spread_none f g zero zero e = refl

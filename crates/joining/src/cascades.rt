@@ -39,14 +39,9 @@ fn sums_over(sheet: &[u32], other: &[u32]) -> bool
 fn largest_in(sheet: &[u32], column: Column, n: u32) -> u32
     ensures { result ≡ largest (spread (ends_in sheet.now column.base column.stride) 0 n) }
 {
-    let mut most = 0;
-    let mut k = 0;
-    while k < n {
-        let x = cell(sheet, column, k);
-        if most < x {
-            most = x;
-        }
-        k += 1;
+    let mut most = 0u32;
+    for k in 0..n {
+        most = most.max(cell(sheet, column, k));
     }
     most
 }
@@ -59,10 +54,7 @@ pub fn largest_index(sheet: &[u32]) -> u32
     let rules = layout::RULE_SOURCES;
     let a = largest_in(sheet, styles, word(sheet, layout::STYLES));
     let b = largest_in(sheet, rules, word(sheet, layout::RULES));
-    if a < b {
-        return b;
-    }
-    a
+    a.max(b)
 }
 
 // Whether a sheet has neither direct styles nor rules.

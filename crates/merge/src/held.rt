@@ -46,11 +46,9 @@ fn put_held_steps(sheet: &mut [u32], s: u32, other: &[u32], n: u32)
     ensures { sheet.new ≡ sets sheet.old (step_place s) (flat_map step_words (spread (part_at other.now) 0 n)) }
 {
     let combinators = layout::STEP_COMBINATORS;
-    let mut j = 0;
-    while j < n {
+    for j in 0..n {
         let code = cell(other, combinators, j);
         put_step(sheet, s + j, other, step_place(j), code);
-        j += 1;
     }
 }
 
@@ -81,10 +79,8 @@ fn put_held_rules(sheet: &mut [u32], c: Counts, other: &[u32])
     ensures { sheet.new ≡ sets sheet.old (RULE-ORIGIN + RULE-WORDS * c.rules) (rule_words c.steps c.entries (map (shift_rule c.next) (sheet_of other.now).rules)) }
 {
     let n = word(other, layout::RULES);
-    let mut k = 0;
-    while k < n {
+    for k in 0..n {
         put_held_rule(sheet, c, other, k);
-        k += 1;
     }
 }
 
@@ -110,10 +106,8 @@ fn put_held_styles(sheet: &mut [u32], c: Counts, other: &[u32])
     ensures { sheet.new ≡ sets sheet.old (STYLE-ORIGIN + STYLE-WORDS * c.styles) (style_words c.style_entries (map (shift_style c.next) (sheet_of other.now).styles)) }
 {
     let n = word(other, layout::STYLES);
-    let mut k = 0;
-    while k < n {
+    for k in 0..n {
         put_held_style(sheet, c, other, k);
-        k += 1;
     }
 }
 

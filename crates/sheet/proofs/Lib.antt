@@ -2,3 +2,4 @@
 pub mod ShapeLaws
 pub mod Shaped
 pub mod ReadLaws
+pub mod Each

@@ -220,41 +220,20 @@ fn step_fine(sheet: &[u32], s: u32) -> bool
 fn rules_fine(sheet: &[u32], n: u32) -> bool
     ensures { result ≡ all_below n (rule_fine sheet.now) }
 {
-    let mut r = 0;
-    while r < n {
-        if !rule_fine(sheet, r) {
-            return false;
-        }
-        r += 1;
-    }
-    true
+    (0..n).all(|r| rule_fine(sheet, r))
 }
 
 fn steps_fine(sheet: &[u32], n: u32) -> bool
     requires { n ≤ 2048 }
     ensures { result ≡ all_below n (step_fine sheet.now) }
 {
-    let mut s = 0;
-    while s < n {
-        if !step_fine(sheet, s) {
-            return false;
-        }
-        s += 1;
-    }
-    true
+    (0..n).all(|s| step_fine(sheet, s))
 }
 
 fn styles_fine(sheet: &[u32], n: u32) -> bool
     ensures { result ≡ all_below n (style_fine sheet.now) }
 {
-    let mut d = 0;
-    while d < n {
-        if !style_fine(sheet, d) {
-            return false;
-        }
-        d += 1;
-    }
-    true
+    (0..n).all(|d| style_fine(sheet, d))
 }
 
 fn rows_fine(sheet: &[u32]) -> bool
@@ -314,11 +293,9 @@ fn sum_ids(sheet: &[u32], n: u32) -> usize
     ensures { result ≡ sum_below (ids_at sheet.now) n }
 {
     let mut sum = 0;
-    let mut s = 0;
-    while s < n {
+    for s in 0..n {
         let at = step_place(s);
         sum += wide(word(sheet, at + 4)) + wide(word(sheet, at + 5));
-        s += 1;
     }
     sum
 }

@@ -35,18 +35,16 @@ fn sum(sheet: &[u32], number: u32) -> Specificity
     let steps = layout::RULE_STEP_ENDS;
     let from = start_of(sheet, steps, number);
     let to = cell(sheet, steps, number);
-    let mut pseudos: u32 = 0;
-    let mut classes: u32 = 0;
-    let mut parts: u32 = 0;
-    let mut types: u32 = 0;
-    let mut s = from;
-    while s < to {
+    let mut pseudos = 0;
+    let mut classes = 0;
+    let mut parts = 0;
+    let mut types = 0;
+    for s in from..to {
         let c = step_counts(sheet, s);
         pseudos += c.0;
         classes += c.1;
         parts += c.2;
         types += c.3;
-        s += 1;
     }
     Specificity(pseudos, classes, parts, types)
 }

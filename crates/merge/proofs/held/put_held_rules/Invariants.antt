@@ -6,6 +6,3 @@ use Rattle.merge.proofs.held.put_held_rules.Given as goal
 
 abbrev pub invariant-loop-k : goal.invariant-loop-k
 invariant-loop-k l = Laying (held_row l.c l.other) (RULE-ORIGIN + RULE-WORDS * l.c.rules) l.n l.initial.sheet l.k l.sheet
-
-abbrev pub decreases-loop-k : goal.decreases-loop-k
-decreases-loop-k l = l.n - l.k

@@ -1,4 +1,3 @@
-use Prim.Native.Nat.{◌-◌}
 use Rattle.sheet.specs.Layout.{step_place}
 use Rattle.sheet.specs.Sheets.{part_at}
 use Rattle.sheet.specs.Laying.{step_words}
@@ -7,6 +6,3 @@ use Rattle.merge.proofs.held.put_held_steps.Given as goal
 
 abbrev pub invariant-loop-j : goal.invariant-loop-j
 invariant-loop-j l = Laying (λ i. step_words (part_at l.other i)) (step_place l.s) l.n l.initial.sheet l.j l.sheet
-
-abbrev pub decreases-loop-j : goal.decreases-loop-j
-decreases-loop-j l = l.n - l.j

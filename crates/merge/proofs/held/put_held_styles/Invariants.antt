@@ -6,6 +6,3 @@ use Rattle.merge.proofs.held.put_held_styles.Given as goal
 
 abbrev pub invariant-loop-k : goal.invariant-loop-k
 invariant-loop-k l = Laying (held_style_row l.c l.other) (STYLE-ORIGIN + STYLE-WORDS * l.c.styles) l.n l.initial.sheet l.k l.sheet
-
-abbrev pub decreases-loop-k : goal.decreases-loop-k
-decreases-loop-k l = l.n - l.k

@@ -1,16 +1,6 @@
 use borrow.Author.Rules.{rules}
-use borrow.Author.Tests.{not-true, not-false}
-use Rattle.lent.proofs.All.{sofar}
+use Rattle.sheet.proofs.Each.{each_below}
 use Rattle.sheet.proofs.shape.steps_fine.Goals as goal
 
-pub loop-s-init : goal.loop-s-init
-loop-s-init c = search (sofar, rules)
-
-pub returns-then-not-step_fine : goal.returns-then-not-step_fine
-returns-then-not-step_fine c = search (sofar, not-true, rules)
-
-pub loop-s-preserved : goal.loop-s-preserved
-loop-s-preserved c = search (sofar, not-false, rules)
-
 pub returns : goal.returns
-returns c = search (sofar, rules)
+returns c = each_below _ _ _ _ _ c.all.ensures.ran (λ x b q k. search rules)

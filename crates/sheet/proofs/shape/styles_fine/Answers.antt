@@ -1,16 +1,6 @@
 use borrow.Author.Rules.{rules}
-use borrow.Author.Tests.{not-true, not-false}
-use Rattle.lent.proofs.All.{sofar}
+use Rattle.sheet.proofs.Each.{each_below}
 use Rattle.sheet.proofs.shape.styles_fine.Goals as goal
 
-pub loop-d-init : goal.loop-d-init
-loop-d-init c = search (sofar, rules)
-
-pub returns-then-not-style_fine : goal.returns-then-not-style_fine
-returns-then-not-style_fine c = search (sofar, not-true, rules)
-
-pub loop-d-preserved : goal.loop-d-preserved
-loop-d-preserved c = search (sofar, not-false, rules)
-
 pub returns : goal.returns
-returns c = search (sofar, rules)
+returns c = each_below _ _ _ _ _ c.all.ensures.ran (λ x b q k. search rules)

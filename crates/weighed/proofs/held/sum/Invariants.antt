@@ -1,9 +1,5 @@
-use Prim.Native.Nat.{◌-◌}
 use Rattle.weighed.proofs.Sums.{Adding}
 use Rattle.weighed.proofs.held.sum.Given as goal
 
 abbrev pub invariant-loop-s : goal.invariant-loop-s
 invariant-loop-s l = Adding l.sheet l.number l.from l.to l.s l.pseudos l.classes l.parts l.types
-
-abbrev pub decreases-loop-s : goal.decreases-loop-s
-decreases-loop-s l = l.to - l.s
