@@ -26,10 +26,8 @@ pub(crate) fn end(words: &[u32], from: usize, i: usize) -> usize {
 // Where the list whose length is word i begins.
 fn start(words: &[u32], lists: Lists, i: usize) -> usize {
     let mut at = lists.begin;
-    let mut k = lists.lengths;
-    while k < i {
+    for k in lists.lengths..i {
         at = end(words, at, k);
-        k += 1;
     }
     at
 }
@@ -49,13 +47,9 @@ pub(crate) fn half(x: u32) -> u16 {
 pub(crate) fn halves(words: &[u32], into: &mut [u16]) -> usize
     ensures { result ≤ length into.old }
 {
-    let mut i = 0;
-    while i < into.len() {
-        if words.len() <= i {
-            return i;
-        }
-        into[i] = half(words[i]);
-        i += 1;
+    let n = words.len().min(into.len());
+    for (place, x) in into.iter_mut().zip(words) {
+        *place = half(*x);
     }
-    i
+    n
 }

@@ -5,64 +5,52 @@ use crate::lists::{Lists, half, halves, list};
 use crate::tell::entry_of;
 use items::said::Said;
 use items::{MOST, said, say};
+use lent::Refusal;
 use lent::held::part;
-use lent::words::{put, wide, widen_into, word};
-use reading::EntryAnswer;
-use style::{Containing, Length, Place, ResourceKey, StyleValueKind, StyleValueRef};
+use lent::words::{wide, widen_into, word};
+use style::{StyleValueKind, StyleValueRef};
 
 const LOOK: Lists = Lists {
     lengths: 2,
     begin: 5,
 };
 
-fn of_contains(answer: Containing) -> Said {
+fn of_yes(answer: Result<bool, Refusal>) -> Said {
+    of_count(answer.map(u32::from))
+}
+
+fn of_count(answer: Result<u32, Refusal>) -> Said {
     match answer {
-        Containing::Yes => said::two(0, 1),
-        Containing::No => said::two(0, 0),
-        Containing::Refused(refusal) => said::refused(refusal),
+        Ok(n) => said::two(0, n),
+        Err(refusal) => said::refused(refusal),
     }
 }
 
-fn of_position(answer: Place) -> Said {
+fn of_number(answer: Result<Option<u32>, Refusal>) -> Said {
     match answer {
-        Place::At(place) => said::two(0, place),
-        Place::Absent => said::one(0),
-        Place::Refused(refusal) => said::refused(refusal),
+        Ok(Some(n)) => said::two(0, n),
+        Ok(None) => said::one(0),
+        Err(refusal) => said::refused(refusal),
     }
 }
 
-fn of_value_kind(answer: StyleValueKind) -> Said {
+fn of_value_kind(answer: Result<Option<StyleValueKind>, Refusal>) -> Said {
     match answer {
-        StyleValueKind::Value(x) => said::three(0, 0, x),
-        StyleValueKind::Resource(x) => said::three(0, 1, x),
-        StyleValueKind::Expr(x) => said::three(0, 2, x),
-        StyleValueKind::ResourceExpr(x) => said::three(0, 3, x),
-        StyleValueKind::Absent => said::one(0),
-        StyleValueKind::Refused(refusal) => said::refused(refusal),
+        Ok(Some(StyleValueKind::Value(x))) => said::three(0, 0, x),
+        Ok(Some(StyleValueKind::Resource(x))) => said::three(0, 1, x),
+        Ok(Some(StyleValueKind::Expr(x))) => said::three(0, 2, x),
+        Ok(Some(StyleValueKind::ResourceExpr(x))) => said::three(0, 3, x),
+        Ok(None) => said::one(0),
+        Err(refusal) => said::refused(refusal),
     }
 }
 
-fn of_value_ref(answer: StyleValueRef) -> Said {
+fn of_value_ref(answer: Result<Option<StyleValueRef>, Refusal>) -> Said {
     match answer {
-        StyleValueRef::Value(x) => said::three(0, 0, x),
-        StyleValueRef::Resource(x) => said::three(0, 1, x),
-        StyleValueRef::Nothing => said::one(0),
-        StyleValueRef::Refused(refusal) => said::refused(refusal),
-    }
-}
-
-fn of_resource_key(answer: ResourceKey) -> Said {
-    match answer {
-        ResourceKey::Key(x) => said::two(0, x),
-        ResourceKey::Nothing => said::one(0),
-        ResourceKey::Refused(refusal) => said::refused(refusal),
-    }
-}
-
-fn of_len(answer: Length) -> Said {
-    match answer {
-        Length::Entries(n) => said::two(0, n),
-        Length::Refused(refusal) => said::refused(refusal),
+        Ok(Some(StyleValueRef::Value(x))) => said::three(0, 0, x),
+        Ok(Some(StyleValueRef::Resource(x))) => said::three(0, 1, x),
+        Ok(None) => said::one(0),
+        Err(refusal) => said::refused(refusal),
     }
 }
 
@@ -73,100 +61,51 @@ fn ids(out: &mut [u8], at: usize, properties: &[u16]) -> usize {
     say::line(out, at, b"lg", part(&words, 0, properties.len()))
 }
 
+// The lists of a style, how many entries are asked of them, and a property.
+#[derive(Clone, Copy)]
+struct Asked<'a> {
+    properties: &'a [u16],
+    kinds: &'a [u32],
+    numbers: &'a [u32],
+    count: usize,
+    property: u16,
+}
+
 // `la` to `ld`
-fn found(
-    out: &mut [u8],
-    at: usize,
-    containing: Containing,
-    place: Place,
-    kind: StyleValueKind,
-    value: StyleValueRef,
-) -> usize {
-    let a = said::line(out, at, b"la", of_contains(containing));
-    let b = said::line(out, a, b"lb", of_position(place));
+fn of_property(x: Asked, out: &mut [u8], at: usize) -> usize {
+    let contains = lookups::contains(x.properties, x.kinds, x.numbers, x.count, x.property);
+    let position = lookups::position(x.properties, x.kinds, x.numbers, x.count, x.property);
+    let kind = lookups::value_kind(x.properties, x.kinds, x.numbers, x.count, x.property);
+    let value = lookups::value_ref(x.properties, x.kinds, x.numbers, x.count, x.property);
+    let a = said::line(out, at, b"la", of_yes(contains));
+    let b = said::line(out, a, b"lb", of_number(position));
     let c = said::line(out, b, b"lc", of_value_kind(kind));
     said::line(out, c, b"ld", of_value_ref(value))
 }
 
-fn of_property(
-    p: &[u16],
-    k: &[u32],
-    n: &[u32],
-    count: usize,
-    property: u16,
-    out: &mut [u8],
-    at: usize,
-) -> usize {
-    let containing = lookups::contains(p, k, n, count, property);
-    let place = lookups::position(p, k, n, count, property);
-    let kind = lookups::value_kind(p, k, n, count, property);
-    let value = lookups::value_ref(p, k, n, count, property);
-    found(out, at, containing, place, kind, value)
-}
-
-// `le` and `lf`
-fn keyed(out: &mut [u8], at: usize, key: ResourceKey, length: Length) -> usize {
-    let e = said::line(out, at, b"le", of_resource_key(key));
-    said::line(out, e, b"lf", of_len(length))
-}
-
 // All seven lines.
-fn look(
-    p: &[u16],
-    k: &[u32],
-    n: &[u32],
-    count: usize,
-    property: u16,
-    out: &mut [u8],
-    at: usize,
-) -> usize {
-    let d = of_property(p, k, n, count, property, out, at);
-    let key = lookups::resource_key(p, k, n, count, property);
-    let f = keyed(out, d, key, lookups::len(p, k, n, count));
-    ids(out, f, lookups::property_ids(p, k, n, count))
+fn look(x: Asked, out: &mut [u8], at: usize) -> usize {
+    let d = of_property(x, out, at);
+    let key = lookups::resource_key(x.properties, x.kinds, x.numbers, x.count, x.property);
+    let e = said::line(out, d, b"le", of_number(key));
+    let length = lookups::len(x.properties, x.kinds, x.numbers, x.count);
+    let f = said::line(out, e, b"lf", of_count(length));
+    let listed = lookups::property_ids(x.properties, x.kinds, x.numbers, x.count);
+    ids(out, f, listed)
 }
 
 // The look-ups on lent lists.
 pub(crate) fn lent_lists(body: &[u32], out: &mut [u8], at: usize) -> usize {
     let mut properties = [0u16; MOST];
     let n = halves(list(body, LOOK, 2), &mut properties);
-    look(
-        &properties[..n],
-        list(body, LOOK, 3),
-        list(body, LOOK, 4),
-        wide(word(body, 0)),
-        half(word(body, 1)),
-        out,
-        at,
-    )
-}
-
-fn put_half(halves: &mut [u16], at: usize, value: u16) {
-    if at < halves.len() {
-        halves[at] = value;
-    }
-}
-
-// Stores an entry in the lists; whether it is one.
-fn keep(
-    answer: EntryAnswer,
-    i: usize,
-    properties: &mut [u16],
-    kinds: &mut [u32],
-    numbers: &mut [u32],
-) -> bool {
-    let EntryAnswer::Entry {
-        property,
-        kind,
-        number,
-    } = answer
-    else {
-        return false;
+    let asked = Asked {
+        properties: &properties[..n],
+        kinds: list(body, LOOK, 3),
+        numbers: list(body, LOOK, 4),
+        count: wide(word(body, 0)),
+        property: half(word(body, 1)),
     };
-    put_half(properties, i, property);
-    put(kinds, i, kind);
-    put(numbers, i, number);
-    true
+    look(asked, out, at)
 }
 
 // The entries of a source, up to 32; how many.
@@ -174,19 +113,19 @@ fn gather(
     sheet: &[u32],
     source: u32,
     number: u32,
-    properties: &mut [u16],
-    kinds: &mut [u32],
-    numbers: &mut [u32],
+    properties: &mut [u16; 32],
+    kinds: &mut [u32; 32],
+    numbers: &mut [u32; 32],
 ) -> usize
     ensures { result ≤ 32 }
 {
-    let mut i: u32 = 0;
-    while i < 32 {
-        let answer = entry_of(sheet, source, number, i);
-        if !keep(answer, wide(i), properties, kinds, numbers) {
-            return wide(i);
-        }
-        i += 1;
+    for i in 0..32 {
+        let Ok(Some(entry)) = entry_of(sheet, source, number, i as u32) else {
+            return i;
+        };
+        properties[i] = entry.property;
+        kinds[i] = entry.kind;
+        numbers[i] = entry.number;
     }
     32
 }
@@ -204,13 +143,12 @@ pub(crate) fn source(body: &[u32], sheet: &[u32], out: &mut [u8], at: usize) -> 
         &mut kinds,
         &mut numbers,
     );
-    look(
-        &properties[..n],
-        &kinds[..n],
-        &numbers[..n],
-        n,
-        half(word(body, 3)),
-        out,
-        at,
-    )
+    let asked = Asked {
+        properties: &properties[..n],
+        kinds: &kinds[..n],
+        numbers: &numbers[..n],
+        count: n,
+        property: half(word(body, 3)),
+    };
+    look(asked, out, at)
 }

@@ -12,7 +12,7 @@ mod push;
 mod tell;
 
 // The sheets, and how many words of each are lent.
-// A proved loop has to end, and nothing says that the input does: the turns are counted down, from a number that no run uses up.
+// A proved loop has to end, and nothing says that the input does: the turns are counted, up to a number that no run reaches.
 fn main() {
     let mut input = [0u8; SIZE];
     let mut words = [0u32; MOST];
@@ -22,8 +22,7 @@ fn main() {
     let mut out = [0u8; 65536];
     let mut used = 0;
     let mut item = NONE;
-    let mut turns = u64::MAX;
-    while turns > 0 {
+    for _ in 0..u64::MAX {
         item = next(&mut input, &mut words, item);
         if item.next <= item.from {
             finish(&input, item.have, &mut out, used);
@@ -39,6 +38,5 @@ fn main() {
             &mut out,
             used,
         );
-        turns -= 1;
     }
 }

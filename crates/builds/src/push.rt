@@ -1,7 +1,8 @@
 // What is done to a sheet.
 use crate::lists::{Lists, halves, list};
-use builder::{Pushing, push_cascade, push_rule, push_rules, push_style};
+use builder::{push_cascade, push_rule, push_rules, push_style};
 use items::{MOST, say};
+use lent::Refusal;
 use lent::words::{put, wide, word};
 
 const STYLE: Lists = Lists {
@@ -20,10 +21,10 @@ const RULE: Lists = Lists {
 };
 
 // The tag and 0, or the refusal.
-fn pushed(out: &mut [u8], at: usize, tag: &[u8], pushing: Pushing) -> usize {
+fn pushed(out: &mut [u8], at: usize, tag: &[u8], pushing: Result<(), Refusal>) -> usize {
     match pushing {
-        Pushing::Pushed => say::one(out, at, tag, 0),
-        Pushing::Refused(refusal) => say::refused(out, at, tag, refusal),
+        Ok(()) => say::one(out, at, tag, 0),
+        Err(refusal) => say::refused(out, at, tag, refusal),
     }
 }
 
@@ -32,7 +33,7 @@ pub(crate) fn new(sheet: &mut [u32], out: &mut [u8], at: usize) -> usize {
     pushed(out, at, b"new", pushing)
 }
 
-fn style_of(body: &[u32], properties: &[u16], sheet: &mut [u32]) -> Pushing {
+fn style_of(body: &[u32], properties: &[u16], sheet: &mut [u32]) -> Result<(), Refusal> {
     let origin = word(body, 1);
     let count = wide(word(body, 2));
     let kinds = list(body, STYLE, 4);
@@ -40,7 +41,7 @@ fn style_of(body: &[u32], properties: &[u16], sheet: &mut [u32]) -> Pushing {
     push_style(sheet, origin, properties, kinds, numbers, count)
 }
 
-fn group_of(body: &[u32], properties: &[u16], sheet: &mut [u32]) -> Pushing {
+fn group_of(body: &[u32], properties: &[u16], sheet: &mut [u32]) -> Result<(), Refusal> {
     let origin = word(body, 1);
     let count = wide(word(body, 2));
     let rules = list(body, GROUP, 3);
@@ -61,7 +62,7 @@ fn group_of(body: &[u32], properties: &[u16], sheet: &mut [u32]) -> Pushing {
     )
 }
 
-fn rule_of(body: &[u32], properties: &[u16], sheet: &mut [u32]) -> Pushing {
+fn rule_of(body: &[u32], properties: &[u16], sheet: &mut [u32]) -> Result<(), Refusal> {
     let steps = list(body, RULE, 5);
     let combinators = list(body, RULE, 6);
     let kinds = list(body, RULE, 8);
