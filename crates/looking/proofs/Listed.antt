@@ -6,6 +6,7 @@ use Prim.Native.Nat.{ℕ, ◌+◌, ◌-◌, ◌≤◌, ◌<◌}
 use native.Mathlib.Omega.{arith}
 use lib.ListN.{drop, length-take}
 use lib.Seq.{get_or-take, get_or-drop}
+use Rattle.std.specs.Prelude.{Option}
 use Rattle.theory.specs.Lists.{ascends}
 use Rattle.lent.specs.Pool.{ends_in, start_of, list_at}
 use Rattle.sheet.specs.Shape.{sheet_shape}
@@ -49,6 +50,6 @@ module _ (w h s c m tr : List ℕ) (e : (sheet_shape w ≡ true) × (table_shape
 -- ---- what they answer, of the state
 
 module _ (w h s c m tr : List ℕ) (ranking : ℕ) (f : ranking ≡ ranking_in h) where
-  pub winner_stands : (k : ℕ) (rules : List ℕ) → rules ≡ list_at (ends_in s 1 3) m k → (p : ℕ) (b : Best) → Stands w ranking p (winner_of w ranking rules p) b
+  pub winner_stands : (k : ℕ) (rules : List ℕ) → rules ≡ list_at (ends_in s 1 3) m k → (p : ℕ) (b : Option Best) → Stands w ranking p (winner_of w ranking rules p) b
       → Stands w (ranking_in h) p (winner_in w (table h s c m tr) k p) b
   winner_stands k rules g p b u = rw (f, g) at u

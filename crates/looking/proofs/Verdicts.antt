@@ -1,5 +1,5 @@
 -- The refusals of one state, and what is there where there is none. Assumes nothing.
-use mathlib.Core.Path.{◌≡◌, sym, ◌∙◌}
+use mathlib.Core.Path.{◌≡◌, refl, sym, ◌∙◌}
 use mathlib.Core.Bool.{true, false, not}
 use mathlib.Core.List.{List, []}
 use Prim.Native.Nat.{ℕ, ◌<◌}
@@ -7,8 +7,9 @@ use native.Mathlib.Omega.{arith}
 use lib.Dec.{eqb}
 use borrow.Author.Tests.{ltb-true, not-false}
 use Rattle.theory.proofs.Lists.{and_left, and_right, or_second}
-use Rattle.lent.specs.Refusals.{answered}
-use Rattle.lent.proofs.Refusals.{first_clear}
+use Rattle.lent.specs.Refusals.{number_of, told, answered}
+use Rattle.lent.specs.declared.Refusal.{Refusal}
+use Rattle.lent.proofs.Refusals.{first_clear, refused_first}
 use Rattle.sheet.specs.Shape.{sheet_shape}
 use Rattle.table.specs.Tables.{Table, table, stamp_in, states_in}
 use Rattle.table.specs.Shape.{table_shape}
@@ -35,6 +36,12 @@ module _ (w h s c m tr : List ℕ) (number stamp v : ℕ) (e : v ≡ state_verdi
       let (b, _) = first_clear 4 (not_a_state h number stamp) [] (omega arith) f in
       (shapes w t a, one_of h number stamp b)
 
+module _ (w h s c m tr : List ℕ) (number stamp : ℕ) where
   -- what an accepted call tells
-  pub state_told : (l a : List ℕ) → l ≡ a → l ≡ answered (state_verdict w (table h s c m tr) number stamp) a
-  state_told l a f = rw (← e, z) f
+  pub state_told : 0 ≡ state_verdict w (table h s c m tr) number stamp → {l a : List ℕ} → l ≡ a → l ≡ answered (state_verdict w (table h s c m tr) number stamp) a
+  state_told e f = rw (← e) f
+
+  -- and a refused one
+  pub state_refused : (r : Refusal) → number_of r ≡ state_verdict w (table h s c m tr) number stamp → (a : List ℕ) → told r ≡ answered (state_verdict w (table h s c m tr) number stamp) a
+  unfolding state_verdict
+  state_refused r e a = refused_first _ r a refl e

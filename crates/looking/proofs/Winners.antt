@@ -8,6 +8,7 @@ use mathlib.Core.Logic.{inl, inr}
 use Prim.Native.Nat.{ℕ, suc, ◌<◌}
 use native.Mathlib.Omega.{arith}
 use borrow.Author.Tests.{lt-ltb}
+use Rattle.std.specs.Prelude.{Option as Optional, Some, None}
 use Rattle.theory.specs.Lists.{◌∈◌, spread}
 use Rattle.theory.specs.Cascade.{Key}
 use Rattle.theory.proofs.Lists.{append_in}
@@ -21,9 +22,8 @@ use Rattle.table.specs.Shape.{table_shape}
 use Rattle.winners.specs.Winners.{Place, style, rule, key_at, holds_at, places_for, AreRules, winner_of, entry_of}
 use Rattle.winners.specs.Best.{place_in, Stands, is_place, Finds}
 use Rattle.winners.specs.declared.Best.{Best}
-use Rattle.winners.specs.declared.Best.TheVariants as best
+use Rattle.winners.specs.declared.Source.TheVariants as source
 use Rattle.winners.specs.declared.Found.{Found}
-use Rattle.keys.specs.declared.CascadeEntryKey.{CascadeEntryKey}
 use Rattle.looking.specs.Calls.{winner_in, entry_in}
 use Rattle.looking.specs.Answers.{winner_told}
 use Rattle.looking.proofs.Listed.{rules_are}
@@ -48,13 +48,13 @@ module _ (w : List ℕ) where
         | inr i ↦ rule_there rules s h i
       ]
 
-module _ (w h s c m tr : List ℕ) (e : (sheet_shape w ≡ true) × (table_shape w (table h s c m tr) ≡ true)) (k : ℕ) (l : k < states_in h) (p : ℕ) (b : Best)
+module _ (w h s c m tr : List ℕ) (e : (sheet_shape w ≡ true) × (table_shape w (table h s c m tr) ≡ true)) (k : ℕ) (l : k < states_in h) (p : ℕ) (b : Optional Best)
     (u : Stands w (ranking_in h) p (winner_in w (table h s c m tr) k p) b) where
   pub winner_is_place : is_place w (place_in b) ≡ true
   winner_is_place = winner_there w (ranking_in h) _ p (place_in b) (rules_are w h s c m tr e k l _ refl) u.place
 
   -- so that what is found there is its entry
-  pub found_in : (f : Found) → Finds (entry_of w (place_in b) p) f → Finds (entry_in w (table h s c m tr) k p) f
+  pub found_in : (f : Optional Found) → Finds (entry_of w (place_in b) p) f → Finds (entry_in w (table h s c m tr) k p) f
   found_in f g = rw u.place at g
 
 -- ---- what is told of it
@@ -63,22 +63,22 @@ abbrev source_in : Option Key → ℕ
 source_in none = 0
 source_in (some k) = k.source
 
-module _ {w : List ℕ} {ranking p : ℕ} {o : Option Place} {b : Best} (u : Stands w ranking p o b) where
-  pub nobody_told : b ≡ best.Nobody → 0 ∷ 0 ∷ [] ≡ winner_told w o
+module _ {w : List ℕ} {ranking p : ℕ} {o : Option Place} {b : Optional Best} (u : Stands w ranking p o b) where
+  pub nobody_told : b ≡ None → 0 ∷ 0 ∷ [] ≡ winner_told w o
   nobody_told e = rw (← u.place, e)
 
-  pub style_told_lem : {d : ℕ} {k : CascadeEntryKey} → b ≡ best.Style d k → 0 ∷ 1 ∷ d ∷ k.source_index ∷ [] ≡ winner_told w o
+  pub style_told_lem : {d : ℕ} {x : Best} → b ≡ Some x → x.source ≡ source.Style d → 0 ∷ 1 ∷ d ∷ x.key.source_index ∷ [] ≡ winner_told w o
   unfolding key_at
-  style_told_lem {d} {k} e =
-      let q : o ≡ some (style d) = sym u.place ∙ ap place_in e in
-      let f : k.source_index ≡ (style_at w d).source = rw (q, e) at (ap source_in u.key) in
+  style_told_lem {d} {x} e i =
+      let q : o ≡ some (style d) = sym u.place ∙ ap place_in e ∙ rw i refl in
+      let f : x.key.source_index ≡ (style_at w d).source = rw (q, e) at (ap source_in u.key) in
       rw (q, f)
 
-  pub rule_told_lem : {r : ℕ} {k : CascadeEntryKey} → b ≡ best.Rule r k → 0 ∷ 2 ∷ r ∷ k.source_index ∷ [] ≡ winner_told w o
+  pub rule_told_lem : {r : ℕ} {x : Best} → b ≡ Some x → x.source ≡ source.Rule r → 0 ∷ 2 ∷ r ∷ x.key.source_index ∷ [] ≡ winner_told w o
   unfolding key_at
-  rule_told_lem {r} {k} e =
-      let q : o ≡ some (rule r) = sym u.place ∙ ap place_in e in
-      let f : k.source_index ≡ (rule_at w r).source = rw (q, e) at (ap source_in u.key) in
+  rule_told_lem {r} {x} e i =
+      let q : o ≡ some (rule r) = sym u.place ∙ ap place_in e ∙ rw i refl in
+      let f : x.key.source_index ≡ (rule_at w r).source = rw (q, e) at (ap source_in u.key) in
       rw (q, f)
 
 pub ruleset winnings = (nobody_told, style_told_lem, rule_told_lem)

@@ -1,20 +1,18 @@
 // The winner of a property, and what it says.
-ghost use Rattle.std.specs.Prelude.{◌≡◌, true, ◌<◌};
+ghost use Rattle.std.specs.Prelude.{◌≡◌};
 ghost use Rattle.lent.specs.Refusals.{answered};
 ghost use Rattle.style.specs.Looking.{kind_told, kind_of, plain_told, plain_of, resource_told, resource_of};
-ghost use Rattle.sheet.specs.Shape.{sheet_shape};
-ghost use Rattle.table.specs.Tables.{table, states_in};
-ghost use Rattle.table.specs.Shape.{table_shape};
+ghost use Rattle.table.specs.Tables.{table};
 ghost use Rattle.table.specs.Calls.{state_verdict};
-ghost use Rattle.winners.specs.Best.{Finds};
 ghost use Rattle.looking.specs.Calls.{winner_in, entry_in};
 ghost use Rattle.looking.specs.Answers.{winning_told, winner_told};
+ghost use Rattle.looking.specs.Shown.{Shows};
 
 use crate::{StyleSourceRef, held};
 use lent::Refusal;
 use matcher::MatchState;
 use matcher::states::check_state;
-use style::held::kind_of;
+use style::held::{kind_of, plain_of, resource_of};
 use style::{StyleValueKind, StyleValueRef};
 use winners::held::entry;
 use winners::{Found, Source};
@@ -53,21 +51,20 @@ pub fn winning_source_for_id(
     }))
 }
 
-// The winner's own entry.
+// The winner's own entry: 11, 4.
 fn winning_entry(
     sheet: &[u32],
-    head: &[u32],
+    head: &[u32; 8],
     states: &[u32],
     cursors: &[u32],
     matched: &[u32],
     transitions: &[u32],
-    number: u32,
+    state: MatchState,
     property: u16,
-) -> Option<Found>
-    requires sheet_value { (sheet_shape sheet.now ≡ true) × (table_shape sheet.now (table head.now states.now cursors.now matched.now transitions.now) ≡ true) }
-    requires number_bound { number < states_in head.now }
-    ensures { Finds (entry_in sheet.now (table head.now states.now cursors.now matched.now transitions.now) number property) result }
+) -> Result<Option<Found>, Refusal>
+    ensures { Shows sheet.now (table head.now states.now cursors.now matched.now transitions.now) state.number state.stamp property result }
 {
+    check_state(sheet, head, states, cursors, matched, transitions, state)?;
     let best = held::winning_source(
         sheet,
         head,
@@ -75,10 +72,10 @@ fn winning_entry(
         cursors,
         matched,
         transitions,
-        number,
+        state.number,
         property,
     );
-    entry(sheet, best, property as u32)
+    Ok(entry(sheet, best, property as u32))
 }
 
 // `StyleCascade::value_kind`
@@ -94,7 +91,6 @@ pub fn value_kind(
 ) -> Result<Option<StyleValueKind>, Refusal>
     ensures { kind_told result ≡ answered (state_verdict sheet.now (table head.now states.now cursors.now matched.now transitions.now) state.number state.stamp) (kind_of (entry_in sheet.now (table head.now states.now cursors.now matched.now transitions.now) state.number property)) }
 {
-    check_state(sheet, head, states, cursors, matched, transitions, state)?;
     let found = winning_entry(
         sheet,
         head,
@@ -102,13 +98,13 @@ pub fn value_kind(
         cursors,
         matched,
         transitions,
-        state.number,
+        state,
         property,
-    );
-    match found {
-        Some(Found { kind, number }) => kind_of(kind, number),
-        None => Ok(None),
-    }
+    )?;
+    let Some(found) = found else {
+        return Ok(None);
+    };
+    Ok(Some(kind_of(found.kind, found.number)))
 }
 
 // `StyleCascade::get_entry_ref`: a value as a value, a resource as a resource, an expression as nothing; the next source is not tried.
@@ -124,7 +120,7 @@ pub fn get_entry_ref(
 ) -> Result<Option<StyleValueRef>, Refusal>
     ensures { plain_told result ≡ answered (state_verdict sheet.now (table head.now states.now cursors.now matched.now transitions.now) state.number state.stamp) (plain_of (entry_in sheet.now (table head.now states.now cursors.now matched.now transitions.now) state.number property)) }
 {
-    let kind = value_kind(
+    let found = winning_entry(
         sheet,
         head,
         states,
@@ -134,11 +130,10 @@ pub fn get_entry_ref(
         state,
         property,
     )?;
-    Ok(match kind {
-        Some(StyleValueKind::Value(n)) => Some(StyleValueRef::Value(n)),
-        Some(StyleValueKind::Resource(n)) => Some(StyleValueRef::Resource(n)),
-        _ => None,
-    })
+    let Some(found) = found else {
+        return Ok(None);
+    };
+    Ok(plain_of(found.kind, found.number))
 }
 
 // The key of a winning resource.
@@ -154,7 +149,7 @@ pub fn resource_key(
 ) -> Result<Option<u32>, Refusal>
     ensures { resource_told result ≡ answered (state_verdict sheet.now (table head.now states.now cursors.now matched.now transitions.now) state.number state.stamp) (resource_of (entry_in sheet.now (table head.now states.now cursors.now matched.now transitions.now) state.number property)) }
 {
-    let kind = value_kind(
+    let found = winning_entry(
         sheet,
         head,
         states,
@@ -164,8 +159,8 @@ pub fn resource_key(
         state,
         property,
     )?;
-    Ok(match kind {
-        Some(StyleValueKind::Resource(n)) => Some(n),
-        _ => None,
-    })
+    let Some(found) = found else {
+        return Ok(None);
+    };
+    Ok(resource_of(found.kind, found.number))
 }

@@ -1,21 +1,16 @@
 use borrow.Author.Rules.{rules}
-use Rattle.matcher.proofs.Listed.{listing_refused}
-use Rattle.looking.proofs.Verdicts.{state_passed, state_told}
-use Rattle.looking.proofs.Looking.{kind_fits, entry_told_lem, nothing_told}
+use Rattle.looking.proofs.Verdicts.{state_refused}
+use Rattle.looking.proofs.Looking.{kind_fits, kind_found, kind_none}
 use Rattle.looking.proofs.look.value_kind.Goals as goal
 
-pub returns-then-v-ne0 : goal.returns-then-v-ne0
-returns-then-v-ne0 c = search (listing_refused, rules)
-
-pub winning_entry-found-requires : goal.winning_entry-found-requires
-winning_entry-found-requires c =
-    let asked = state_passed _ _ _ _ _ _ _ _ _ c.state_verdict-v.ensures c.if-v-ne0.false in record { sheet_value = asked.0; number_bound = asked.1 }
-
 pub kind_of-requires : goal.kind_of-requires
-kind_of-requires c = search (kind_fits, rules)
+kind_of-requires c = kind_fits _ _ _ _ _ _ _ _ _ c.in_ok-found.ensures.0 _ c.in_ok-found.ensures.1 c.in-Some.is
 
-pub returns-in-Entry : goal.returns-in-Entry
-returns-in-Entry c = search (state_told, entry_told_lem, rules)
+pub returns-in_err-found : goal.returns-in_err-found
+returns-in_err-found c = search (state_refused, rules)
 
-pub returns-in-Nothing : goal.returns-in-Nothing
-returns-in-Nothing c = search (state_told, nothing_told, rules)
+pub returns-in_default : goal.returns-in_default
+returns-in_default c = kind_none _ _ _ _ _ _ _ _ _ c.in_ok-found.ensures.0 _ c.in_ok-found.ensures.1 c.in_default.is
+
+pub returns : goal.returns
+returns c = kind_found _ _ _ _ _ _ _ _ _ c.in_ok-found.ensures.0 _ c.in_ok-found.ensures.1 c.in-Some.is c.kind_of.ensures

@@ -1,21 +1,20 @@
 use borrow.Author.Rules.{rules}
-use Rattle.matcher.proofs.Listed.{listing_refused}
-use Rattle.looking.proofs.Verdicts.{state_passed, state_told}
-use Rattle.looking.proofs.Winners.{winnings}
+use mathlib.Core.Path.{refl}
+use Rattle.looking.proofs.Verdicts.{state_passed, state_refused, state_told}
+use Rattle.looking.proofs.Winners.{nobody_told, style_told_lem, rule_told_lem}
 use Rattle.looking.proofs.look.winning_source_for_id.Goals as goal
 
-pub returns-then-v-ne0 : goal.returns-then-v-ne0
-returns-then-v-ne0 c = search (listing_refused, rules)
-
 pub winning_source-best-requires : goal.winning_source-best-requires
-winning_source-best-requires c =
-    let asked = state_passed _ _ _ _ _ _ _ _ _ c.state_verdict-v.ensures c.if-v-ne0.false in record { sheet_value = asked.0; number_bound = asked.1 }
+winning_source-best-requires c = let (e, l) = state_passed _ _ _ _ _ _ _ _ _ c.in_ok-check_state.ensures refl in record { sheet_value = e; number_bound = l }
 
-pub returns-in-Nobody : goal.returns-in-Nobody
-returns-in-Nobody c = search (state_told, winnings, rules)
+pub returns-in_err-check_state : goal.returns-in_err-check_state
+returns-in_err-check_state c = search (state_refused, rules)
+
+pub returns-in_default : goal.returns-in_default
+returns-in_default c = state_told _ _ _ _ _ _ _ _ c.in_ok-check_state.ensures (nobody_told c.winning_source-best.ensures c.in_default.is)
 
 pub returns-in-Style : goal.returns-in-Style
-returns-in-Style c = search (state_told, winnings, rules)
+returns-in-Style c = state_told _ _ _ _ _ _ _ _ c.in_ok-check_state.ensures (style_told_lem c.winning_source-best.ensures c.in-Some.is c.in-Style.is)
 
 pub returns-in-Rule : goal.returns-in-Rule
-returns-in-Rule c = search (state_told, winnings, rules)
+returns-in-Rule c = state_told _ _ _ _ _ _ _ _ c.in_ok-check_state.ensures (rule_told_lem c.winning_source-best.ensures c.in-Some.is c.in-Rule.is)
