@@ -4,3 +4,4 @@ pub mod Search
 pub mod Walk
 pub mod Buffers
 pub mod Insertion
+pub mod Order

@@ -1,15 +1,10 @@
-use borrow.Author.Rules.{rules}
-use Rattle.idset.proofs.AtMost.{below_start, below_stop, below_next, below_end}
+use Rattle.std.proofs.Common.{◌∙◌, rules, tests, nat_le}
+use Rattle.std.proofs.lemmas.Iterator.{YieldsList-from_slice}
+use Rattle.std.proofs.lemmas.Iterator.Search.{all_from_yields_List}
+use Rattle.idset.proofs.AtMost.{all_at_most}
 use Rattle.idset.proofs.at_most.Goals as goal
 
-pub loop-i-init : goal.loop-i-init
-loop-i-init c = below_start
-
-pub returns-then-limit-numbers : goal.returns-then-limit-numbers
-returns-then-limit-numbers c = search (below_stop, rules)
-
-pub loop-i-preserved : goal.loop-i-preserved
-loop-i-preserved c = search (below_next, rules)
-
 pub returns : goal.returns
-returns c = search (below_end, rules)
+returns c =
+    all_from_yields_List (λ n. nat_le n c.args.limit) _ _ c.all.result c.all.ensures.ran (YieldsList-from_slice c.args.numbers.now cc) (λ x b q k. search (rules, tests))
+    ∙ all_at_most c.args.limit c.args.numbers.now
