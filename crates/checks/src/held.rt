@@ -7,30 +7,15 @@ ghost use Rattle.selector.specs.Checks.{row_fits, selector_over, path_over, comb
 use lent::Refusal;
 use selector::held::{STEP_WORDS, SUBJECT_WORDS, row_ascends, row_fits};
 
-fn steps_fit(steps: &[u32], n: usize) -> bool
-    requires { n ≤ 8 }
-    ensures { result ≡ all_below n (λ (k : ℕ). row_fits 8 steps.now (22 * k)) }
+// Whether the counts of each of n rows of so many words are within `size`.
+fn rows_fit(rows: &[u32], words: usize, size: u32, n: usize) -> bool
+    requires { (n ≤ 32) × (words ≤ 38) }
+    ensures { result ≡ all_below n (λ (k : ℕ). row_fits size rows.now (words * k)) }
 {
-    let mut k = 0;
-    while k < n {
-        if !row_fits(steps, STEP_WORDS * k, 8) {
+    for k in 0..n {
+        if !row_fits(rows, words * k, size) {
             return false;
         }
-        k += 1;
-    }
-    true
-}
-
-fn subjects_fit(path: &[u32], m: usize) -> bool
-    requires { m ≤ 32 }
-    ensures { result ≡ all_below m (λ (i : ℕ). row_fits 16 path.now (38 * i)) }
-{
-    let mut i = 0;
-    while i < m {
-        if !row_fits(path, SUBJECT_WORDS * i, 16) {
-            return false;
-        }
-        i += 1;
     }
     true
 }
@@ -48,7 +33,7 @@ pub fn selector_over(steps: &[u32], n: usize, combinators: &[u32], c: usize) -> 
     if combinators.len() < c {
         return true;
     }
-    !steps_fit(steps, n)
+    !rows_fit(steps, STEP_WORDS, 8, n)
 }
 
 fn path_over(path: &[u32], m: usize) -> bool
@@ -60,7 +45,7 @@ fn path_over(path: &[u32], m: usize) -> bool
     if path.len() / SUBJECT_WORDS < m {
         return true;
     }
-    !subjects_fit(path, m)
+    !rows_fit(path, SUBJECT_WORDS, 16, m)
 }
 
 fn combinators_off(n: usize, c: usize) -> bool
@@ -76,26 +61,17 @@ fn codes_over(combinators: &[u32], c: usize) -> bool
     requires { c ≤ length combinators.now }
     ensures { result ≡ codes_over combinators.now c }
 {
-    let mut j = 0;
-    while j < c {
-        if 1 < combinators[j] {
-            return true;
-        }
-        j += 1;
-    }
-    false
+    combinators[..c].iter().any(|code| 1 < *code)
 }
 
 fn subjects_off(path: &[u32], m: usize) -> bool
     requires { m ≤ 32 }
     ensures { result ≡ subjects_off path.now m }
 {
-    let mut i = 0;
-    while i < m {
+    for i in 0..m {
         if !row_ascends(path, SUBJECT_WORDS * i) {
             return true;
         }
-        i += 1;
     }
     false
 }
@@ -115,12 +91,7 @@ pub fn check_combinators(n: usize, combinators: &[u32], c: usize) -> Result<(), 
 }
 
 // Of a selector alone: 2, 3, 6.
-pub fn check_selector(
-    steps: &[u32],
-    n: usize,
-    combinators: &[u32],
-    c: usize,
-) -> Result<(), Refusal>
+pub fn check_selector(steps: &[u32], n: usize, combinators: &[u32], c: usize) -> Result<(), Refusal>
     ensures { verdict_of result ≡ selector_verdict steps.now n combinators.now c }
 {
     if selector_over(steps, n, combinators, c) {

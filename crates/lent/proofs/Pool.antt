@@ -65,10 +65,10 @@ module _ (l : List ℕ) (from to : ℕ) where
   part_rest h = take_all (length l - from) (drop from l) (simp length-drop (omega arith)) ∙ sym (take_all (to - from) (drop from l) (simp length-drop (omega arith)))
 
 -- and those of `rest`
-pub rest_none : (l : List ℕ) (from : ℕ) → length l ≤ from → [] ≡ drop from l
+pub rest_none : {A : Type 0} (l : List A) (from : ℕ) → length l ≤ from → [] ≡ drop from l
 rest_none l from h = sym (drop_of_length-le l h)
 
-pub rest_all : (l : List ℕ) (from : ℕ) → take (length l - from) (drop from l) ≡ drop from l
+pub rest_all : {A : Type 0} (l : List A) (from : ℕ) → take (length l - from) (drop from l) ≡ drop from l
 rest_all l from = take_all (length l - from) (drop from l) (simp length-drop (omega arith))
 
 -- ---- ends

@@ -84,10 +84,16 @@ impl fmt::Display for Refusal {
         match self {
             Refusal::NotAscending => write!(f, "1: ids or property ids do not ascend"),
             Refusal::OverSize => write!(f, "2: a count is over its size, or past its list"),
-            Refusal::CombinatorCount => write!(f, "3: combinators are not one fewer than the steps"),
+            Refusal::CombinatorCount => write!(
+                f,
+                "3: combinators are not one fewer than the steps"
+            ),
             Refusal::NotAState => write!(f, "4: no state of this table"),
             Refusal::NoRoom => write!(f, "5: no room for a state"),
-            Refusal::CodeOutOfRange => write!(f, "6: an origin, a ranking, a combinator or a kind is out of range"),
+            Refusal::CodeOutOfRange => write!(
+                f,
+                "6: an origin, a ranking, a combinator or a kind is out of range"
+            ),
             Refusal::NoSourceIndex => write!(f, "7: the source indexes are used up"),
             Refusal::BufferTooShort => write!(f, "8: the buffer for the answer is too short"),
             Refusal::NoSuchRule => write!(f, "9: no such rule"),

@@ -23,53 +23,32 @@ pub fn put(words: &mut [u32], at: usize, value: u32)
     }
 }
 
-// The words of `list`, stored one after the other from `at` on.
-pub fn copy_into(words: &mut [u32], at: usize, list: &[u32])
+// What `list` has, stored one after the other from `at` on.
+pub fn copy_into<T: Copy>(words: &mut [T], at: usize, list: &[T])
     ensures { words.new ≡ sets words.old at list.now }
 {
-    let mut j = 0;
-    while j < list.len() {
-        if words.len() <= at {
-            return;
-        }
-        if words.len() - at <= j {
-            return;
-        }
-        words[at + j] = list[j];
-        j += 1;
+    if words.len() <= at {
+        return;
+    }
+    let room = words.len() - at;
+    if list.len() <= room {
+        words[at..at + list.len()].copy_from_slice(list);
+    } else {
+        words[at..].copy_from_slice(&list[..room]);
     }
 }
 
-// The same for a list of half words.
+// Half words into words.
 pub fn widen_into(words: &mut [u32], at: usize, list: &[u16])
     ensures { words.new ≡ sets words.old at list.now }
 {
-    let mut j = 0;
-    while j < list.len() {
+    for (j, half) in list.iter().enumerate() {
         if words.len() <= at {
             return;
         }
         if words.len() - at <= j {
             return;
         }
-        words[at + j] = list[j] as u32;
-        j += 1;
-    }
-}
-
-// Half words into half words.
-pub fn copy_halves_into(words: &mut [u16], at: usize, list: &[u16])
-    ensures { words.new ≡ sets words.old at list.now }
-{
-    let mut j = 0;
-    while j < list.len() {
-        if words.len() <= at {
-            return;
-        }
-        if words.len() - at <= j {
-            return;
-        }
-        words[at + j] = list[j];
-        j += 1;
+        words[at + j] = u32::from(*half);
     }
 }

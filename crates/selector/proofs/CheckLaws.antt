@@ -1,13 +1,16 @@
 -- Laws of the checks, by each way through the code. Assumes nothing.
 use mathlib.Core.Path.{◌≡◌, refl, sym, ap, ◌∙◌}
-use mathlib.Core.Bool.{Bool, true, false, not}
+use mathlib.Core.Bool.{Bool, true, false, not, ◌&&◌, ◌||◌}
 use mathlib.Core.List.{List, [], ◌∷◌}
 use mathlib.Core.Logic.{⊎_elim}
-use Prim.Native.Nat.{ℕ, ◌+◌, ◌*◌, ◌/◌, ◌≤◌, ◌<◌}
+use Prim.Native.Nat.{ℕ, zero, suc, ◌+◌, ◌*◌, ◌/◌, ◌≤◌, ◌<◌}
 use native.Mathlib.Omega.{arith}
-use lib.ListN.{length, get_or}
+use lib.ListN.{length, get_or, take}
+use lib.Seq.{take-suc}
 use lib.Dec.{ltb, leb, eqb}
 use borrow.Author.Tests.{lt-ltb, le-ltb, le-leb, lt-leb, ltb-false, not-false}
+use Rattle.std.specs.List.{list_any}
+use Rattle.std.proofs.lemmas.List.Folds.{list_any-append}
 use Rattle.theory.specs.Lists.{ascends}
 use Rattle.theory.proofs.Lists.{or_first, or_second, le_or_lt}
 use Rattle.lent.specs.All.{all_below}
@@ -47,26 +50,19 @@ module _ {p : ℕ → Bool} {n i : ℕ} (s : Sofar p n i) where
   pub off_one : (b : Bool) → i < n → b ≡ p i → b ≡ false → true ≡ not (all_below n p)
   off_one b h e t = ap not (sofar_fails s b h e t)
 
--- a walk over the combinators' codes
-pub record Coded (codes : List ℕ) (n i : ℕ) : Type 0 where
-  pub passed : Sofar (λ j. not (ltb 1 (get_or codes j 0))) n i
-
-pub coded_start : {codes : List ℕ} {n : ℕ} → Coded codes n 0
-coded_start = record { passed = sofar_start }
-
-module _ {codes : List ℕ} {n i : ℕ} (s : Coded codes n i) where
-  pub coded_end : n ≤ i → false ≡ codes_over codes n
-  unfolding codes_over
-  coded_end h = off_none s.passed h
-
-  pub coded_next : i < n → get_or codes i 0 ≤ 1 → Coded codes n (i + 1)
-  coded_next h g = record { passed = sofar_more s.passed true h (rw (le-ltb 1 (get_or codes i 0) g)) refl }
-
-  pub coded_over : i < n → 1 < get_or codes i 0 → true ≡ codes_over codes n
-  unfolding codes_over
-  coded_over h g = off_one s.passed false h (rw (lt-ltb 1 (get_or codes i 0) g)) refl
-
-pub ruleset coded = (coded_start, coded_end, coded_next, coded_over)
+-- one of the first c codes
+pub codes_any : (codes : List ℕ) (c : ℕ) → c ≤ length codes → list_any (λ x. ltb 1 x) (take c codes) ≡ codes_over codes c
+unfolding codes_over all_below
+codes_any codes zero h = refl
+codes_any codes (suc c) h =
+    ap (list_any (λ x. ltb 1 x)) (take-suc codes c 0 h)
+    ∙ list_any-append (λ x. ltb 1 x) (take c codes) (get_or codes c 0 ∷ [])
+    ∙ rw (codes_any codes c (omega arith)) (by (all_below c (λ j. not (ltb 1 (get_or codes j 0)))) (ltb 1 (get_or codes c 0)))
+  where
+    by : (a b : Bool) → (not a || (b || false)) ≡ not (a && not b)
+    by true true = refl
+    by true false = refl
+    by false b = refl
 
 -- ---- counts over their sizes
 

@@ -1,15 +1,14 @@
 -- Laws of lent rows: a tag, the ids, and a step against a subject, by each way through the code. Assumes nothing.
-use mathlib.Core.Path.{◌≡◌, refl, sym, ◌∙◌}
-use mathlib.Core.Bool.{Bool, true, false, cond, not}
+use mathlib.Core.Path.{◌≡◌, refl, sym, ap, ◌∙◌}
+use mathlib.Core.Bool.{Bool, true, false, cond, not, ◌&&◌}
 use mathlib.Core.Option.{Option}
-use mathlib.Core.List.{List}
+use mathlib.Core.List.{List, [], ◌∷◌}
 use Prim.Native.Nat.{ℕ, ◌+◌, ◌-◌, ◌≤◌, ◌<◌}
-use native.Mathlib.Numerals.{add-one}
 use native.Mathlib.Omega.{arith}
-use lib.ListN.{length, get_or, take, drop, length-take, drop_of_length-le}
-use lib.Seq.{drop-cons}
+use lib.ListN.{length, get_or, take, drop, length-take}
 use lib.Dec.{eqb}
-use borrow.Author.Tests.{eq-eqb, ne_eqb, not-true, not-false}
+use borrow.Author.Tests.{eq-eqb, ne_eqb}
+use Rattle.std.specs.List.{list_all}
 use Rattle.theory.specs.Lists.{ascends, member, contained, sort}
 use Rattle.theory.specs.Paths.{child, descendant}
 use Rattle.theory.specs.States.{descends}
@@ -45,29 +44,11 @@ contained_sort l m =
     (λ e. (contained_is l m).1 (λ a h. (contained_is (sort l) m).0 e a ((sort_in l a).1 h)))
     (λ e. (contained_is (sort l) m).1 (λ a h. (contained_is l m).0 e a ((sort_in l a).0 h)))
 
--- a walk after i of the ids: what is left to look up decides the whole
-pub record Looking (given set : List ℕ) (i : ℕ) : Type 0 where
-  pub within : i ≤ length given
-  pub left : contained given set ≡ contained (drop i given) set
-
-pub look_start : {given set : List ℕ} → Looking given set 0
-look_start = record { within = omega arith; left = refl }
-
-module _ {given set : List ℕ} {i : ℕ} (k : Looking given set i) where
-  pub look_end : length given ≤ i → true ≡ contained given set
-  unfolding contained
-  look_end h = sym (k.left ∙ rw (drop_of_length-le given h))
-
-  module _ (b : Bool) (h : i < length given) (e : b ≡ member (get_or given i 0) set) where
-    pub look_missing : b ≡ false → false ≡ contained given set
-    unfolding contained
-    look_missing t = sym (k.left ∙ rw (drop-cons given i 0 h, ← e, t))
-
-    pub look_next : b ≡ true → Looking given set (i + 1)
-    unfolding contained
-    look_next t = record { within = omega arith; left = rw (add-one i) (k.left ∙ rw (drop-cons given i 0 h, ← e, t)) }
-
-pub ruleset looking = (look_start, look_end, look_missing, look_next, not-true, not-false)
+-- each id is looked up
+pub all_contained : (l m : List ℕ) → list_all (λ a. member a m) l ≡ contained l m
+unfolding contained
+all_contained [] m = refl
+all_contained (a ∷ l) m = ap (λ b. member a m && b) (all_contained l m)
 
 -- ---- a step's row against a subject's
 

@@ -7,6 +7,7 @@ ghost use Rattle.selector.specs.Rows.{tag_of, words_from, row_at};
 ghost use Rattle.selector.specs.Checks.{row_fits, tags_ascend};
 ghost use Rattle.selector.specs.Weighing.{is_set};
 
+use idset::held::contains;
 use idset::is_ascending;
 use lent::words::{wide, word};
 
@@ -71,14 +72,7 @@ fn all_in(given: &[u32], set: &[u32]) -> bool
     requires { ascends set.now ≡ true }
     ensures { result ≡ contained given.now set.now }
 {
-    let mut i = 0;
-    while i < given.len() {
-        if !idset::held::contains(set, given[i]) {
-            return false;
-        }
-        i += 1;
-    }
-    true
+    given.iter().all(|id| contains(set, *id))
 }
 
 // Whether the step whose row begins at word s matches the subject whose row begins at word x.

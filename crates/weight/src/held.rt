@@ -38,14 +38,12 @@ pub fn sum(steps: &[u32], n: usize) -> Specificity
     let mut classes: u32 = 0;
     let mut parts: u32 = 0;
     let mut types: u32 = 0;
-    let mut k = 0;
-    while k < n {
+    for k in 0..n {
         let s = step_specificity(steps, STEP_WORDS * k);
         pseudos += s.0;
         classes += s.1;
         parts += s.2;
         types += s.3;
-        k += 1;
     }
     Specificity(pseudos, classes, parts, types)
 }

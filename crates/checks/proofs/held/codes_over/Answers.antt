@@ -1,15 +1,10 @@
-use borrow.Author.Rules.{rules}
-use Rattle.selector.proofs.CheckLaws.{coded}
+use Rattle.std.proofs.Common.{◌∙◌, rules, tests, nat_lt, take}
+use Rattle.std.proofs.lemmas.Iterator.{YieldsList-from_slice}
+use Rattle.std.proofs.lemmas.Iterator.Search.{any_from_yields_List}
+use Rattle.selector.proofs.CheckLaws.{codes_any}
 use Rattle.checks.proofs.held.codes_over.Goals as goal
 
-pub loop-j-init : goal.loop-j-init
-loop-j-init c = search (coded, rules)
-
-pub returns-then-combinators-j-gt1 : goal.returns-then-combinators-j-gt1
-returns-then-combinators-j-gt1 c = search (coded, rules)
-
-pub loop-j-preserved : goal.loop-j-preserved
-loop-j-preserved c = search (coded, rules)
-
 pub returns : goal.returns
-returns c = search (coded, rules)
+returns c =
+    any_from_yields_List (λ x. nat_lt 1 x) _ _ c.any.result c.any.ensures.ran (YieldsList-from_slice (take c.args.c c.args.combinators.now) cc) (λ x b q k. search (rules, tests))
+    ∙ codes_any c.args.combinators.now c.args.c c.requires
