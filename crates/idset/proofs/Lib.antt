@@ -4,4 +4,3 @@ pub mod Search
 pub mod Walk
 pub mod Buffers
 pub mod Insertion
-pub mod Order

@@ -1,20 +1,16 @@
--- The order of two numbers, by which is the lesser. Assumes nothing.
-use mathlib.Core.Path.{◌≡◌, sym, ◌∙◌}
-use mathlib.Core.List.{[]}
-use Prim.Native.Nat.{ℕ, ◌≤◌, ◌<◌}
-use native.Mathlib.Omega.{arith}
-use lib.IntN.{pos, negsuc}
-use Rattle.theory.proofs.Compare.{compare_less, compare_more, compare_same, compare_refl}
-use Rattle.property.specs.Order.{order_of}
+-- The library's order of two numbers is that of two lists that hold one each. Assumes nothing.
+use mathlib.Core.Path.{◌≡◌, refl, sym, ◌∙◌}
+use mathlib.Core.List.{[], ◌∷◌}
+use Prim.Native.Nat.{ℕ}
+use Rattle.std.specs.declared.cmp.Ordering.{Ordering}
+use Rattle.std.specs.declared.cmp.Ordering.TheVariants.{Less, Equal, Greater}
+use Rattle.std.specs.Ordering.{nat_cmp, ordering_then}
+use Rattle.std.specs.Cmp.Lexicographic.{slice_cmp}
 
-pub order_less : (a b : ℕ) → a < b → negsuc 0 ≡ order_of a b
-unfolding order_of
-order_less a b h = sym (compare_less a b [] [] h)
+then_equal : (r : Ordering) → r ≡ ordering_then r Equal
+then_equal Less = refl
+then_equal Equal = refl
+then_equal Greater = refl
 
-pub order_more : (a b : ℕ) → b < a → pos 1 ≡ order_of a b
-unfolding order_of
-order_more a b h = sym (compare_more a b [] [] h)
-
-pub order_same : (a b : ℕ) → b ≤ a → a ≤ b → pos 0 ≡ order_of a b
-unfolding order_of
-order_same a b h k = sym (compare_same a b [] [] (omega arith) ∙ compare_refl [])
+pub of_one_each : (a b : ℕ) (r : Ordering) → r ≡ nat_cmp a b → r ≡ slice_cmp nat_cmp (a ∷ []) (b ∷ [])
+of_one_each a b r e = e ∙ then_equal (nat_cmp a b)

@@ -4,8 +4,10 @@
 ghost use Rattle.std.specs.Prelude.{◌≡◌};
 ghost use Rattle.property.specs.Order.{order_of};
 
+use std::cmp::Ordering;
+
 // A runtime property identifier, as in the Rust a handle over u16. 01: "property ids u16".
-#[derive(Clone, Copy)]
+#[derive(Clone, Copy, Debug, PartialEq, Eq, PartialOrd, Ord, Hash)]
 pub struct PropertyId(pub u16);
 
 impl PropertyId {
@@ -21,16 +23,14 @@ impl PropertyId {
         self.0
     }
 
-    // The Rust's derived order: -1, 0 or 1.
+    // The derived order, as a number: -1, 0 or 1.
     pub fn compare(self, other: PropertyId) -> i32
         ensures { result ≡ order_of self.0 other.0 }
     {
-        if self.0 < other.0 {
-            return -1;
+        match self.cmp(&other) {
+            Ordering::Less => -1,
+            Ordering::Equal => 0,
+            Ordering::Greater => 1,
         }
-        if other.0 < self.0 {
-            return 1;
-        }
-        0
     }
 }

@@ -8,6 +8,7 @@ pub mod Steps
 pub mod Cursors
 pub mod States
 pub mod Compare
+pub mod Ordered
 pub mod Keys
 pub mod Winners
 pub mod Changes

@@ -1,5 +1,5 @@
 use Rattle.std.proofs.Common.{rules}
-use Rattle.idset.proofs.Order.{comparing}
+use Rattle.theory.proofs.Ordered.{comparing}
 use Rattle.idset.proofs.compare.Goals as goal
 
 pub returns-in-Less : goal.returns-in-Less

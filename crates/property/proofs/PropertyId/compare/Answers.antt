@@ -1,14 +1,19 @@
-use borrow.Author.Rules.{rules}
-use Rattle.property.proofs.Order.{order_less, order_more, order_same}
+use Rattle.std.proofs.Common.{rules}
+use Rattle.theory.proofs.Ordered.{comparing}
+use Rattle.property.specs.Order.{order_of}
+use Rattle.property.proofs.Order.{of_one_each}
 use Rattle.property.proofs.PropertyId.compare.Goals as goal
 
 -- `property::PropertyId::compare` meets its contract. Assumes nothing.
 
-pub returns-then-self-other : goal.returns-then-self-other
-returns-then-self-other c = search (order_less, rules)
+pub returns-in-Less : goal.returns-in-Less
+unfolding order_of
+returns-in-Less c = search (comparing, of_one_each, rules)
 
-pub returns-then-other-self : goal.returns-then-other-self
-returns-then-other-self c = search (order_more, rules)
+pub returns-in-Equal : goal.returns-in-Equal
+unfolding order_of
+returns-in-Equal c = search (comparing, of_one_each, rules)
 
-pub returns : goal.returns
-returns c = search (order_same, rules)
+pub returns-in-Greater : goal.returns-in-Greater
+unfolding order_of
+returns-in-Greater c = search (comparing, of_one_each, rules)

@@ -14,7 +14,7 @@ use Rattle.theory.specs.Lists.{compare}
 use Rattle.theory.proofs.Lists.{le_or_lt}
 use Rattle.theory.proofs.Compare.{compare_less, compare_more, compare_same}
 
-abbrev sign : Ordering → ℤ
+abbrev pub sign : Ordering → ℤ
 sign Less = negsuc 0
 sign Equal = pos 0
 sign Greater = pos 1
