@@ -39,12 +39,10 @@ pub fn number_for(
 ) -> u32
     ensures { result ≡ number_for states.now cursors.now matched.now n (state next.now listed.now) }
 {
-    let mut k = 0;
-    while k < n {
+    for k in 0..n {
         if is_state(states, cursors, matched, next, listed, k) {
             return k;
         }
-        k += 1;
     }
     n
 }

@@ -42,33 +42,33 @@ link_same count l n k b d e f g h = rw (← e, ← f) (sym g ∙ h)
 
 -- ---- the last link
 
--- the rest of the chain, from link on, ends where the whole does
-pub record Following (t : List ℕ) (count first link left : ℕ) : Type 0 where
-  pub whole : last_from t count first (count - 1) ≡ last_from t count link left
+-- the rest of the chain, from link on, ends where the whole does; a turn takes the number of turns from `turn` to the next
+pub record Following (t : List ℕ) (count first link turn : ℕ) : Type 0 where
+  pub whole : last_from t count first (count - 1) ≡ last_from t count link (count - turn)
   pub there : leads count link ≡ true
   pub some : 0 < link
 
 abbrev pub IsLast : List ℕ → ℕ → ℕ → ℕ → Type 0
 IsLast t count first link = (link ≡ last_from t count first (count - 1)) × (leads count link ≡ true)
 
-pub follow_start : (t : List ℕ) (count first : ℕ) → leads count first ≡ true → Following t count first first (count - 1)
+pub follow_start : (t : List ℕ) (count first : ℕ) → leads count first ≡ true → Following t count first first 1
 follow_start t count first e = record { whole = refl; there = e; some = link_some count first e }
 
-module _ {t : List ℕ} {count first link left : ℕ} (w : Following t count first link left) where
-  follow_at : 0 < left → last_from t count first (count - 1) ≡ cond (leads count (next_link t (link - 1))) (last_from t count (next_link t (link - 1)) (left - 1)) link
+module _ {t : List ℕ} {count first link turn : ℕ} (w : Following t count first link turn) where
+  follow_at : turn < count → last_from t count first (count - 1) ≡ cond (leads count (next_link t (link - 1))) (last_from t count (next_link t (link - 1)) (count - (turn + 1))) link
   unfolding last_from
-  follow_at h = let e : left ≡ suc (left - 1) = omega arith in w.whole ∙ ap (λ (n : ℕ). last_from t count link n) e
+  follow_at h = let e : count - turn ≡ suc (count - (turn + 1)) = omega arith in w.whole ∙ ap (λ (n : ℕ). last_from t count link n) e
 
-  module _ (v : ℕ) (b : Bool) (ev : v ≡ next_link t (link - 1)) (eb : b ≡ leads count v) (h : 0 < left) where
-    pub follow_here : not b ≡ true → IsLast t count first link
-    follow_here e = (sym (follow_at h ∙ rw (← ev, ← eb, not-true b e)), w.there)
+  module _ (v : ℕ) (b : Bool) (ev : v ≡ next_link t (link - 1)) (eb : b ≡ leads count v) (h : turn < count) where
+    pub follow_here : b ≡ false → IsLast t count first link
+    follow_here e = (sym (follow_at h ∙ rw (← ev, ← eb, e)), w.there)
 
-    pub follow_next : not b ≡ false → Following t count first v (left - 1)
-    follow_next e = let l : leads count v ≡ true = sym eb ∙ not-false b e in record { whole = follow_at h ∙ rw (← ev, l); there = l; some = link_some count v l }
+    pub follow_next : b ≡ true → Following t count first v (turn + 1)
+    follow_next e = let l : leads count v ≡ true = sym eb ∙ e in record { whole = follow_at h ∙ rw (← ev, l); there = l; some = link_some count v l }
 
-  pub follow_end : left ≤ 0 → IsLast t count first link
+  pub follow_end : count ≤ turn → IsLast t count first link
   unfolding last_from
-  follow_end h = let e : left ≡ 0 = omega arith in (sym (w.whole ∙ rw e), w.there)
+  follow_end h = let e : count - turn ≡ 0 = omega arith in (sym (w.whole ∙ rw e), w.there)
 
 -- ---- a transition's row, and its link
 

@@ -24,14 +24,12 @@ fn last_from(transitions: &[u32], count: u32, first: u32) -> u32
 {
     let links = layout::NEXT_LINKS;
     let mut link = first;
-    let mut left = count - 1;
-    while left > 0 {
+    for _ in 1..count {
         let next = cell(transitions, links, link - 1);
         if !leads(count, next) {
             return link;
         }
         link = next;
-        left -= 1;
     }
     link
 }

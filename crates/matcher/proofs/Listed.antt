@@ -11,7 +11,7 @@ use denote.Ref.{Bor}
 use borrow.Author.Tests.{lt-ltb, le-ltb, le-leb, lt-leb, eq-eqb, ne_eqb, ltb-true, not-true, not-false}
 use Rattle.theory.proofs.Lists.{le_or_lt, and_right, or_second}
 use Rattle.lent.specs.Pool.{start_of, list_at}
-use Rattle.std.specs.Prelude.{Ok, Err}
+use Rattle.std.specs.Prelude.{Ok}
 use Rattle.lent.specs.Refusals.{number_of, told, answered, first_of}
 use Rattle.lent.specs.declared.Refusal.{Refusal}
 use Rattle.lent.proofs.Refusals.{first_clear, refusal_number, refused_first}

@@ -17,14 +17,10 @@ pub fn roots(sheet: &[u32], cursors: &mut [u32]) -> usize
     let steps = layout::RULE_STEP_ENDS;
     let rules = word(sheet, layout::RULES);
     let mut used = 0;
-    let mut r = 0;
-    while r < rules {
+    for r in 0..rules {
         if start_of(sheet, steps, r) < cell(sheet, steps, r) {
             cursors[used] = r * 8;
             used += 1;
-            r += 1;
-        } else {
-            r += 1;
         }
     }
     used

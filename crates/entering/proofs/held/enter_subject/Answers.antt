@@ -1,4 +1,3 @@
-use borrow.Author.Rules.{rules}
 use Rattle.entering.proofs.Entered.{parents_there, entered_cached, entered_new, entered_none}
 use Rattle.entering.proofs.held.enter_subject.Goals as goal
 

@@ -1,10 +1,6 @@
-use Prim.Native.Nat.{◌-◌}
 use Rattle.finding.specs.States.{state}
 use Rattle.finding.proofs.Finding.{Seeking}
 use Rattle.finding.proofs.held.number_for.Given as goal
 
 abbrev pub invariant-loop-k : goal.invariant-loop-k
 invariant-loop-k l = Seeking l.states l.cursors l.matched l.n (state l.next l.listed) l.k
-
-abbrev pub decreases-loop-k : goal.decreases-loop-k
-decreases-loop-k l = l.n - l.k
