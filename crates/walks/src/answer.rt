@@ -1,50 +1,21 @@
 // The lines of one item.
+use crate::store::{Lent, Stored};
 use crate::{calls, look, sets, store, tell};
 use items::{MOST, room, say};
 use lent::held::part;
 
-// How many words the sheet and the table's pieces have.
-pub(crate) const SHEET: usize = 67020;
-
-pub(crate) const STATES: usize = 1545;
-
-pub(crate) const CURSORS: usize = 16384;
-
-pub(crate) const MATCHED: usize = 8192;
-
-pub(crate) const TRANSITIONS: usize = 24600;
-
-// On the pieces as far as they are lent.
-fn lent(
-    op: u32,
-    body: &[u32],
-    sheet: &[u32],
-    head: &mut [u32; 8],
-    states: &mut [u32],
-    cursors: &mut [u32],
-    matched: &mut [u32],
-    transitions: &mut [u32],
-    rooms: &[u32],
-    out: &mut [u8],
-    at: usize,
-) -> usize {
-    let a = room(rooms, 0, sheet.len());
-    let b = room(rooms, 1, states.len());
-    let c = room(rooms, 2, cursors.len());
-    let d = room(rooms, 3, matched.len());
-    let e = room(rooms, 4, transitions.len());
-    calls::call(
-        op,
-        body,
-        &sheet[..a],
-        head,
-        &mut states[..b],
-        &mut cursors[..c],
-        &mut matched[..d],
-        &mut transitions[..e],
-        out,
-        at,
-    )
+// What is asked of the table, as far as it is lent.
+fn asked(op: u32, body: &[u32], stored: &Stored, out: &mut [u8], at: usize) -> usize {
+    let rooms = &stored.rooms;
+    let lent = Lent {
+        sheet: &stored.sheet[..room(rooms, 0, store::SHEET)],
+        head: &stored.head,
+        states: &stored.states[..room(rooms, 1, store::STATES)],
+        cursors: &stored.cursors[..room(rooms, 2, store::CURSORS)],
+        matched: &stored.matched[..room(rooms, 3, store::MATCHED)],
+        transitions: &stored.transitions[..room(rooms, 4, store::TRANSITIONS)],
+    };
+    look::asked(op, body, lent, out, at)
 }
 
 // On no table.
@@ -65,35 +36,19 @@ pub(crate) fn by_op(
     op: u32,
     words: &[u32; MOST],
     n: usize,
-    sheet: &mut [u32; SHEET],
-    head: &mut [u32; 8],
-    states: &mut [u32; STATES],
-    cursors: &mut [u32; CURSORS],
-    matched: &mut [u32; MATCHED],
-    transitions: &mut [u32; TRANSITIONS],
-    rooms: &mut [u32; 5],
+    stored: &mut Stored,
     out: &mut [u8; 65536],
     at: usize,
 ) -> usize {
     let body = part(words, 0, n);
     match op {
-        1 => store::sheet(body, sheet, at),
-        2 => store::rooms(body, rooms, at),
-        3..=5 | 9..=12 => lent(
-            op,
-            body,
-            sheet,
-            head,
-            states,
-            cursors,
-            matched,
-            transitions,
-            rooms,
-            out,
-            at,
-        ),
-        6 => store::piece(body, head, states, cursors, matched, transitions, at),
-        7 => tell::pieces(body, head, states, cursors, matched, transitions, out, at),
+        1 => store::sheet(body, stored, at),
+        2 => store::rooms(body, stored, at),
+        3 => calls::build(body, stored, out, at),
+        4 => calls::enter(body, stored, out, at),
+        5 | 9..=12 => asked(op, body, stored, out, at),
+        6 => store::piece(body, stored, at),
+        7 => tell::pieces(body, stored, out, at),
         _ => alone(op, body, out, at),
     }
 }

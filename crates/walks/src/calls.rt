@@ -1,83 +1,41 @@
-// The calls on a table.
+// The calls that write a table. Its pieces are as far as they are lent.
+use crate::store::{self, Stored};
 use crate::{look, tell};
 use entering::enter::enter_subject;
+use items::room;
 use lent::words::word;
 use typed::SelectorInputs;
 
-fn build(
-    body: &[u32],
-    sheet: &[u32],
-    head: &mut [u32; 8],
-    states: &mut [u32],
-    cursors: &mut [u32],
-    out: &mut [u8],
-    at: usize,
-) -> usize {
-    let building = building::build(sheet, word(body, 0), word(body, 1), head, states, cursors);
+pub(crate) fn build(body: &[u32], stored: &mut Stored, out: &mut [u8], at: usize) -> usize {
+    let a = room(&stored.rooms, 0, store::SHEET);
+    let b = room(&stored.rooms, 1, store::STATES);
+    let c = room(&stored.rooms, 2, store::CURSORS);
+    let building = building::build(
+        &stored.sheet[..a],
+        word(body, 0),
+        word(body, 1),
+        &mut stored.head,
+        &mut stored.states[..b],
+        &mut stored.cursors[..c],
+    );
     tell::building(out, at, building)
 }
 
-fn enter(
-    body: &[u32],
-    sheet: &[u32],
-    head: &mut [u32; 8],
-    states: &mut [u32],
-    cursors: &mut [u32],
-    matched: &mut [u32],
-    transitions: &mut [u32],
-    out: &mut [u8],
-    at: usize,
-) -> usize {
+pub(crate) fn enter(body: &[u32], stored: &mut Stored, out: &mut [u8], at: usize) -> usize {
+    let a = room(&stored.rooms, 0, store::SHEET);
+    let b = room(&stored.rooms, 1, store::STATES);
+    let c = room(&stored.rooms, 2, store::CURSORS);
+    let d = room(&stored.rooms, 3, store::MATCHED);
+    let e = room(&stored.rooms, 4, store::TRANSITIONS);
     let entering = enter_subject(
-        sheet,
-        head,
-        states,
-        cursors,
-        matched,
-        transitions,
+        &stored.sheet[..a],
+        &mut stored.head,
+        &mut stored.states[..b],
+        &mut stored.cursors[..c],
+        &mut stored.matched[..d],
+        &mut stored.transitions[..e],
         look::state(body, 0),
         SelectorInputs::from_row(body, 2),
     );
     tell::entering(out, at, entering)
-}
-
-// The pieces are as far as they are lent.
-pub(crate) fn call(
-    op: u32,
-    body: &[u32],
-    sheet: &[u32],
-    head: &mut [u32; 8],
-    states: &mut [u32],
-    cursors: &mut [u32],
-    matched: &mut [u32],
-    transitions: &mut [u32],
-    out: &mut [u8],
-    at: usize,
-) -> usize {
-    match op {
-        3 => build(body, sheet, head, states, cursors, out, at),
-        4 => enter(
-            body,
-            sheet,
-            head,
-            states,
-            cursors,
-            matched,
-            transitions,
-            out,
-            at,
-        ),
-        _ => look::asked(
-            op,
-            body,
-            sheet,
-            head,
-            states,
-            cursors,
-            matched,
-            transitions,
-            out,
-            at,
-        ),
-    }
 }

@@ -1,9 +1,9 @@
 // A buffer of half words, and what an answer's list left in it.
 ghost use Rattle.std.specs.Prelude.{◌≤◌, length};
 
-use changeset::Changing;
 use items::said::Said;
 use items::{said, say};
+use lent::Refusal;
 use lent::words::{wide, word};
 use lines::text;
 
@@ -15,98 +15,54 @@ pub(crate) const SIZE: usize = 8192;
 
 // The low half of a word.
 pub(crate) fn low(x: u32) -> u16 {
-    (x & 65535) as u16
+    (x % 65536) as u16
 }
 
 // The low halves of a list's words, as far as there is room; how many.
 pub(crate) fn narrow(list: &[u32], into: &mut [u16]) -> usize
     ensures { result ≤ length into.old }
 {
-    let mut i = 0;
-    while i < into.len() {
-        if list.len() <= i {
-            return i;
-        }
-        into[i] = low(list[i]);
-        i += 1;
+    let n = list.len().min(into.len());
+    for (place, x) in into.iter_mut().zip(list) {
+        *place = low(*x);
     }
-    i
-}
-
-fn number(out: &mut [u8], at: usize, x: u16) -> usize {
-    say::number(out, at, x as u32)
+    n
 }
 
 fn numbers(out: &mut [u8], at: usize, list: &[u16]) -> usize {
     let mut used = at;
-    let mut i = 0;
-    while i < list.len() {
-        used = number(out, used, list[i]);
-        i += 1;
+    for x in list {
+        used = say::number(out, used, u32::from(*x));
     }
     used
-}
-
-// One more, if this is not what stood there at first.
-fn after(n: u32, x: u16) -> u32 {
-    if x == FILLED {
-        return n;
-    }
-    if n < 65535 {
-        return n + 1;
-    }
-    n
-}
-
-// How many are not what stood there at first.
-fn others(list: &[u16]) -> u32 {
-    let mut n = 0;
-    let mut i = 0;
-    while i < list.len() {
-        n = after(n, list[i]);
-        i += 1;
-    }
-    n
-}
-
-fn least(a: usize, b: usize) -> usize
-    ensures { result ≤ a }
-{
-    if a < b { a } else { b }
 }
 
 // How many half words are lent, if word i says so.
 pub(crate) fn room(body: &[u32], i: usize) -> usize
     ensures { result ≤ 8192 }
 {
-    least(SIZE, wide(word(body, i)))
+    SIZE.min(wide(word(body, i)))
 }
 
 fn small(n: usize) -> u32 {
-    if n < 4294967296 { n as u32 } else { 4294967295 }
+    u32::try_from(n).unwrap_or(u32::MAX)
 }
 
-// The first n half words, and how many after them were changed.
+// The first n half words, and how many after them are not what stood there at first.
 fn left(out: &mut [u8], at: usize, buffer: &[u16], n: usize) -> usize {
-    let k = least(buffer.len(), n);
+    let (list, past) = buffer.split_at(n.min(buffer.len()));
     let start = text(out, at, b"ids");
-    let used = numbers(out, start, &buffer[..k]);
+    let used = numbers(out, start, list);
     let end = say::end(out, used);
-    say::one(out, end, b"past", others(&buffer[k..]))
+    let changed = past.iter().filter(|x| **x != FILLED).count();
+    say::one(out, end, b"past", small(changed))
 }
 
 // How many there are.
-pub(crate) fn of_changing(answer: Changing) -> Said {
+pub(crate) fn of_count(answer: Result<usize, Refusal>) -> Said {
     match answer {
-        Changing::Listed(n) => said::two(0, small(n)),
-        Changing::Refused(refusal) => said::refused(refusal),
-    }
-}
-
-fn many(answer: Changing) -> usize {
-    match answer {
-        Changing::Listed(n) => n,
-        Changing::Refused(_) => 0,
+        Ok(n) => said::two(0, small(n)),
+        Err(refusal) => said::refused(refusal),
     }
 }
 
@@ -115,9 +71,9 @@ pub(crate) fn listed(
     out: &mut [u8],
     at: usize,
     tag: &[u8],
-    answer: Changing,
+    answer: Result<usize, Refusal>,
     buffer: &[u16],
 ) -> usize {
-    let used = said::line(out, at, tag, of_changing(answer));
-    left(out, used, buffer, many(answer))
+    let used = said::line(out, at, tag, of_count(answer));
+    left(out, used, buffer, answer.unwrap_or(0))
 }

@@ -1,20 +1,21 @@
 // States, and what a table's states are asked: rules, winners, changes and channels.
+use crate::store::Lent;
 use crate::{half, tell};
 use building::root_state;
-use cascade::Channels;
 use cascade::change::{changed_channels, changed_properties};
 use cascade::resources::resource_dependent_properties;
-use channels::{ChannelSet, Lowest};
+use channels::ChannelSet;
 use items::said::Said;
 use items::{said, say};
+use lent::Refusal;
 use lent::held::rest;
 use lent::words::word;
 use lines::text;
-use looking::Winning;
+use looking::StyleSourceRef;
 use looking::look::{get_entry_ref, resource_key, value_kind, winning_source_for_id};
 use matcher::MatchState;
 use matcher::rules::{matching_part, matching_rules};
-use style::{ResourceKey, StyleValueKind, StyleValueRef};
+use style::{StyleValueKind, StyleValueRef};
 
 // The state in the two words from i on.
 pub(crate) fn state(body: &[u32], i: usize) -> MatchState {
@@ -30,299 +31,180 @@ pub(crate) fn root(body: &[u32], out: &mut [u8], at: usize) -> usize {
     say::two(out, at, b"root", state.number, state.stamp)
 }
 
-fn matching(
-    body: &[u32],
-    sheet: &[u32],
-    head: &[u32; 8],
-    states: &[u32],
-    cursors: &[u32],
-    matched: &[u32],
-    transitions: &[u32],
-    out: &mut [u8],
-    at: usize,
-) -> usize {
+fn matching(body: &[u32], t: Lent, out: &mut [u8], at: usize) -> usize {
     let state = state(body, 0);
-    let listing = matching_part(sheet, head, states, cursors, matched, transitions, state);
+    let listing = matching_part(
+        t.sheet,
+        t.head,
+        t.states,
+        t.cursors,
+        t.matched,
+        t.transitions,
+        state,
+    );
     let used = tell::listing(out, at, listing);
-    let list = matching_rules(sheet, head, states, cursors, matched, transitions, state);
+    let list = matching_rules(
+        t.sheet,
+        t.head,
+        t.states,
+        t.cursors,
+        t.matched,
+        t.transitions,
+        state,
+    );
     tell::rules(out, used, list)
 }
 
-fn of_winning(answer: Winning) -> Said {
+fn of_winning(answer: Result<Option<StyleSourceRef>, Refusal>) -> Said {
     match answer {
-        Winning::Nobody => said::two(0, 0),
-        Winning::Direct(number, source) => said::four(0, 1, number, source),
-        Winning::Rule(number, source) => said::four(0, 2, number, source),
-        Winning::Refused(refusal) => said::refused(refusal),
+        Ok(Some(StyleSourceRef::Direct(number, source))) => said::four(0, 1, number, source),
+        Ok(Some(StyleSourceRef::Rule(number, source))) => said::four(0, 2, number, source),
+        Ok(None) => said::two(0, 0),
+        Err(refusal) => said::refused(refusal),
     }
 }
 
-fn winning(out: &mut [u8], at: usize, answer: Winning) -> usize {
-    said::line(out, at, b"winner", of_winning(answer))
-}
-
-fn of_kind(answer: StyleValueKind) -> Said {
+fn of_kind(answer: Result<Option<StyleValueKind>, Refusal>) -> Said {
     match answer {
-        StyleValueKind::Value(n) => said::three(0, 0, n),
-        StyleValueKind::Resource(n) => said::three(0, 1, n),
-        StyleValueKind::Expr(n) => said::three(0, 2, n),
-        StyleValueKind::ResourceExpr(n) => said::three(0, 3, n),
-        StyleValueKind::Absent => said::one(0),
-        StyleValueKind::Refused(refusal) => said::refused(refusal),
+        Ok(Some(StyleValueKind::Value(n))) => said::three(0, 0, n),
+        Ok(Some(StyleValueKind::Resource(n))) => said::three(0, 1, n),
+        Ok(Some(StyleValueKind::Expr(n))) => said::three(0, 2, n),
+        Ok(Some(StyleValueKind::ResourceExpr(n))) => said::three(0, 3, n),
+        Ok(None) => said::one(0),
+        Err(refusal) => said::refused(refusal),
     }
 }
 
-fn kind(out: &mut [u8], at: usize, answer: StyleValueKind) -> usize {
-    said::line(out, at, b"kind", of_kind(answer))
-}
-
-fn of_plain(answer: StyleValueRef) -> Said {
+fn of_plain(answer: Result<Option<StyleValueRef>, Refusal>) -> Said {
     match answer {
-        StyleValueRef::Value(n) => said::three(0, 0, n),
-        StyleValueRef::Resource(n) => said::three(0, 1, n),
-        StyleValueRef::Nothing => said::one(0),
-        StyleValueRef::Refused(refusal) => said::refused(refusal),
+        Ok(Some(StyleValueRef::Value(n))) => said::three(0, 0, n),
+        Ok(Some(StyleValueRef::Resource(n))) => said::three(0, 1, n),
+        Ok(None) => said::one(0),
+        Err(refusal) => said::refused(refusal),
     }
 }
 
-fn plain(out: &mut [u8], at: usize, answer: StyleValueRef) -> usize {
-    said::line(out, at, b"plain", of_plain(answer))
-}
-
-fn of_resource(answer: ResourceKey) -> Said {
+fn of_resource(answer: Result<Option<u32>, Refusal>) -> Said {
     match answer {
-        ResourceKey::Key(n) => said::two(0, n),
-        ResourceKey::Nothing => said::one(0),
-        ResourceKey::Refused(refusal) => said::refused(refusal),
+        Ok(Some(n)) => said::two(0, n),
+        Ok(None) => said::one(0),
+        Err(refusal) => said::refused(refusal),
     }
-}
-
-fn resource(out: &mut [u8], at: usize, answer: ResourceKey) -> usize {
-    said::line(out, at, b"resource", of_resource(answer))
 }
 
 // The winner of a property, and its entry: in full, plainly, and as a resource.
-fn winner(
-    body: &[u32],
-    sheet: &[u32],
-    head: &[u32; 8],
-    states: &[u32],
-    cursors: &[u32],
-    matched: &[u32],
-    transitions: &[u32],
-    out: &mut [u8],
-    at: usize,
-) -> usize {
+fn winner(body: &[u32], t: Lent, out: &mut [u8], at: usize) -> usize {
     let state = state(body, 0);
     let property = half::low(word(body, 2));
     let won = winning_source_for_id(
-        sheet,
-        head,
-        states,
-        cursors,
-        matched,
-        transitions,
+        t.sheet,
+        t.head,
+        t.states,
+        t.cursors,
+        t.matched,
+        t.transitions,
         state,
         property,
     );
-    let a = winning(out, at, won);
-    let entry = value_kind(
-        sheet,
-        head,
-        states,
-        cursors,
-        matched,
-        transitions,
+    let a = said::line(out, at, b"winner", of_winning(won));
+    let kind = value_kind(
+        t.sheet,
+        t.head,
+        t.states,
+        t.cursors,
+        t.matched,
+        t.transitions,
         state,
         property,
     );
-    let b = kind(out, a, entry);
-    let looked = get_entry_ref(
-        sheet,
-        head,
-        states,
-        cursors,
-        matched,
-        transitions,
+    let b = said::line(out, a, b"kind", of_kind(kind));
+    let plain = get_entry_ref(
+        t.sheet,
+        t.head,
+        t.states,
+        t.cursors,
+        t.matched,
+        t.transitions,
         state,
         property,
     );
-    let c = plain(out, b, looked);
+    let c = said::line(out, b, b"plain", of_plain(plain));
     let key = resource_key(
-        sheet,
-        head,
-        states,
-        cursors,
-        matched,
-        transitions,
+        t.sheet,
+        t.head,
+        t.states,
+        t.cursors,
+        t.matched,
+        t.transitions,
         state,
         property,
     );
-    resource(out, c, key)
+    said::line(out, c, b"resource", of_resource(key))
 }
 
-fn changed_into(
-    body: &[u32],
-    sheet: &[u32],
-    head: &[u32; 8],
-    states: &[u32],
-    cursors: &[u32],
-    matched: &[u32],
-    transitions: &[u32],
-    buffer: &mut [u16],
-    out: &mut [u8],
-    at: usize,
-) -> usize {
+// Into as much of a buffer as word 4 says.
+fn changed(body: &[u32], t: Lent, out: &mut [u8], at: usize) -> usize {
+    let mut buffer = [half::FILLED; half::SIZE];
+    let lent = &mut buffer[..half::room(body, 4)];
     let answer = changed_properties(
-        sheet,
-        head,
-        states,
-        cursors,
-        matched,
-        transitions,
+        t.sheet,
+        t.head,
+        t.states,
+        t.cursors,
+        t.matched,
+        t.transitions,
         state(body, 0),
         state(body, 2),
-        buffer,
+        lent,
     );
-    half::listed(out, at, b"changed", answer, buffer)
-}
-
-fn changed(
-    body: &[u32],
-    sheet: &[u32],
-    head: &[u32; 8],
-    states: &[u32],
-    cursors: &[u32],
-    matched: &[u32],
-    transitions: &[u32],
-    out: &mut [u8],
-    at: usize,
-) -> usize {
-    let mut buffer = [half::FILLED; half::SIZE];
-    let n = half::room(body, 4);
-    changed_into(
-        body,
-        sheet,
-        head,
-        states,
-        cursors,
-        matched,
-        transitions,
-        &mut buffer[..n],
-        out,
-        at,
-    )
+    half::listed(out, at, b"changed", answer, lent)
 }
 
 // How many channels a set names, and the lowest.
 pub(crate) fn named(out: &mut [u8], at: usize, set: ChannelSet) -> usize {
     let used = say::one(out, at, b"named", set.len());
     match set.lowest() {
-        Lowest::Channel(k) => say::one(out, used, b"lowest", k),
-        Lowest::Nothing => text(out, used, b"lowest none\n"),
+        Some(k) => say::one(out, used, b"lowest", k),
+        None => text(out, used, b"lowest none\n"),
     }
 }
 
-fn channels(
-    body: &[u32],
-    sheet: &[u32],
-    head: &[u32; 8],
-    states: &[u32],
-    cursors: &[u32],
-    matched: &[u32],
-    transitions: &[u32],
-    out: &mut [u8],
-    at: usize,
-) -> usize {
+fn channels(body: &[u32], t: Lent, out: &mut [u8], at: usize) -> usize {
     let answer = changed_channels(
-        sheet,
-        head,
-        states,
-        cursors,
-        matched,
-        transitions,
+        t.sheet,
+        t.head,
+        t.states,
+        t.cursors,
+        t.matched,
+        t.transitions,
         rest(body, 4),
         state(body, 0),
         state(body, 2),
     );
     match answer {
-        Channels::Set(set) => {
+        Ok(set) => {
             let used = say::two(out, at, b"channels", 0, set.0);
             named(out, used, set)
         }
-        Channels::Refused(refusal) => say::refused(out, at, b"channels", refusal),
+        Err(refusal) => say::refused(out, at, b"channels", refusal),
     }
 }
 
-fn resources_into(sheet: &[u32], buffer: &mut [u16], out: &mut [u8], at: usize) -> usize {
-    let answer = resource_dependent_properties(sheet, buffer);
-    half::listed(out, at, b"resources", answer, buffer)
-}
-
-fn resources(body: &[u32], sheet: &[u32], out: &mut [u8], at: usize) -> usize {
+// Into as much of a buffer as word 0 says.
+fn resources(body: &[u32], t: Lent, out: &mut [u8], at: usize) -> usize {
     let mut buffer = [half::FILLED; half::SIZE];
-    let n = half::room(body, 0);
-    resources_into(sheet, &mut buffer[..n], out, at)
+    let lent = &mut buffer[..half::room(body, 0)];
+    let answer = resource_dependent_properties(t.sheet, lent);
+    half::listed(out, at, b"resources", answer, lent)
 }
 
 // What is asked of a table.
-pub(crate) fn asked(
-    op: u32,
-    body: &[u32],
-    sheet: &[u32],
-    head: &[u32; 8],
-    states: &[u32],
-    cursors: &[u32],
-    matched: &[u32],
-    transitions: &[u32],
-    out: &mut [u8],
-    at: usize,
-) -> usize {
+pub(crate) fn asked(op: u32, body: &[u32], t: Lent, out: &mut [u8], at: usize) -> usize {
     match op {
-        9 => winner(
-            body,
-            sheet,
-            head,
-            states,
-            cursors,
-            matched,
-            transitions,
-            out,
-            at,
-        ),
-        10 => changed(
-            body,
-            sheet,
-            head,
-            states,
-            cursors,
-            matched,
-            transitions,
-            out,
-            at,
-        ),
-        11 => channels(
-            body,
-            sheet,
-            head,
-            states,
-            cursors,
-            matched,
-            transitions,
-            out,
-            at,
-        ),
-        12 => resources(body, sheet, out, at),
-        _ => matching(
-            body,
-            sheet,
-            head,
-            states,
-            cursors,
-            matched,
-            transitions,
-            out,
-            at,
-        ),
+        9 => winner(body, t, out, at),
+        10 => changed(body, t, out, at),
+        11 => channels(body, t, out, at),
+        12 => resources(body, t, out, at),
+        _ => matching(body, t, out, at),
     }
 }

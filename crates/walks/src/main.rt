@@ -13,42 +13,30 @@ mod sets;
 mod store;
 mod tell;
 
-// The sheet, the table's pieces, and how many words of each are lent.
-// A proved loop has to end, and nothing says that the input does: the turns are counted down, from a number that no run uses up.
+use store::Stored;
+
+// A proved loop has to end, and nothing says that the input does: the turns are counted, up to a number that no run reaches.
 fn main() {
     let mut input = [0u8; SIZE];
     let mut words = [0u32; MOST];
-    let mut sheet = [0u32; answer::SHEET];
-    let mut head = [0u32; 8];
-    let mut states = [0u32; answer::STATES];
-    let mut cursors = [0u32; answer::CURSORS];
-    let mut matched = [0u32; answer::MATCHED];
-    let mut transitions = [0u32; answer::TRANSITIONS];
-    let mut rooms = [0u32; 5];
+    let mut stored = Stored {
+        sheet: [0u32; store::SHEET],
+        head: [0u32; 8],
+        states: [0u32; store::STATES],
+        cursors: [0u32; store::CURSORS],
+        matched: [0u32; store::MATCHED],
+        transitions: [0u32; store::TRANSITIONS],
+        rooms: [0u32; 5],
+    };
     let mut out = [0u8; 65536];
     let mut used = 0;
     let mut item = NONE;
-    let mut turns = u64::MAX;
-    while turns > 0 {
+    for _ in 0..u64::MAX {
         item = next(&mut input, &mut words, item);
         if item.next <= item.from {
             finish(&input, item.have, &mut out, used);
             return;
         }
-        used = answer::by_op(
-            item.op,
-            &words,
-            item.count,
-            &mut sheet,
-            &mut head,
-            &mut states,
-            &mut cursors,
-            &mut matched,
-            &mut transitions,
-            &mut rooms,
-            &mut out,
-            used,
-        );
-        turns -= 1;
+        used = answer::by_op(item.op, &words, item.count, &mut stored, &mut out, used);
     }
 }

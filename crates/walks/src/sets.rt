@@ -1,73 +1,49 @@
 // Change sets, channel sets and keys by themselves.
 use crate::half;
 use crate::look::named;
-use changeset::{Changing, Emptiness, from_property_ids, is_empty, len, union};
+use changeset::{from_property_ids, is_empty, len, union};
 use channels::{ChannelSet, affected_channels};
 use items::said::Said;
 use items::{MOST, said, say};
 use keys::CascadeEntryKey;
+use lent::Refusal;
 use lent::held::{part, rest};
 use lent::words::{wide, word};
 use lines::text;
 use selector::Specificity;
 
-fn length(out: &mut [u8], at: usize, answer: Changing) -> usize {
-    said::line(out, at, b"len", half::of_changing(answer))
-}
-
-fn of_emptiness(answer: Emptiness) -> Said {
+fn of_yes(answer: Result<bool, Refusal>) -> Said {
     match answer {
-        Emptiness::Yes => said::two(0, 1),
-        Emptiness::No => said::two(0, 0),
-        Emptiness::Refused(refusal) => said::refused(refusal),
+        Ok(yes) => said::two(0, u32::from(yes)),
+        Err(refusal) => said::refused(refusal),
     }
 }
 
-fn emptiness(out: &mut [u8], at: usize, answer: Emptiness) -> usize {
-    said::line(out, at, b"empty", of_emptiness(answer))
-}
-
-// The set of the first `count` ids, its length and whether it is empty.
-fn set_of(ids: &[u16], count: usize, buffer: &mut [u16], out: &mut [u8], at: usize) -> usize {
-    let answer = from_property_ids(ids, count, buffer);
-    let a = half::listed(out, at, b"set", answer, buffer);
-    let b = length(out, a, len(ids, count));
-    emptiness(out, b, is_empty(ids, count))
-}
-
-// Into as much of a buffer as word 1 says.
-fn set_lent(body: &[u32], ids: &[u16], out: &mut [u8], at: usize) -> usize {
+// The set of the first ids, as many as word 0 says, into as much of a buffer as word 1 says; its length, and whether it is empty.
+fn set_of(body: &[u32], ids: &[u16], out: &mut [u8], at: usize) -> usize {
     let mut buffer = [half::FILLED; half::SIZE];
-    let n = half::room(body, 1);
-    set_of(ids, wide(word(body, 0)), &mut buffer[..n], out, at)
+    let lent = &mut buffer[..half::room(body, 1)];
+    let count = wide(word(body, 0));
+    let answer = from_property_ids(ids, count, lent);
+    let a = half::listed(out, at, b"set", answer, lent);
+    let b = said::line(out, a, b"len", half::of_count(len(ids, count)));
+    said::line(out, b, b"empty", of_yes(is_empty(ids, count)))
 }
 
 pub(crate) fn from_ids(body: &[u32], out: &mut [u8], at: usize) -> usize {
     let mut ids = [0u16; MOST];
     let k = half::narrow(rest(body, 2), &mut ids);
-    set_lent(body, &ids[..k], out, at)
-}
-
-fn united(
-    a: &[u16],
-    n: usize,
-    b: &[u16],
-    m: usize,
-    buffer: &mut [u16],
-    out: &mut [u8],
-    at: usize,
-) -> usize {
-    let answer = union(a, n, b, m, buffer);
-    half::listed(out, at, b"union", answer, buffer)
+    set_of(body, &ids[..k], out, at)
 }
 
 // Into as much of a buffer as word 2 says.
-fn united_lent(body: &[u32], a: &[u16], b: &[u16], out: &mut [u8], at: usize) -> usize {
+fn united(body: &[u32], a: &[u16], b: &[u16], out: &mut [u8], at: usize) -> usize {
     let mut buffer = [half::FILLED; half::SIZE];
-    let k = half::room(body, 2);
+    let lent = &mut buffer[..half::room(body, 2)];
     let n = wide(word(body, 0));
     let m = wide(word(body, 1));
-    united(a, n, b, m, &mut buffer[..k], out, at)
+    let answer = union(a, n, b, m, lent);
+    half::listed(out, at, b"union", answer, lent)
 }
 
 // Where the ids of the second list begin.
@@ -75,16 +51,12 @@ fn second(body: &[u32]) -> usize {
     4 + wide(word(body, 3))
 }
 
-fn unite_with(body: &[u32], a: &[u16], out: &mut [u8], at: usize) -> usize {
-    let mut b = [0u16; MOST];
-    let k = half::narrow(rest(body, second(body)), &mut b);
-    united_lent(body, a, &b[..k], out, at)
-}
-
 pub(crate) fn unite(body: &[u32], out: &mut [u8], at: usize) -> usize {
     let mut a = [0u16; MOST];
-    let k = half::narrow(part(body, 4, second(body)), &mut a);
-    unite_with(body, &a[..k], out, at)
+    let mut b = [0u16; MOST];
+    let n = half::narrow(part(body, 4, second(body)), &mut a);
+    let m = half::narrow(rest(body, second(body)), &mut b);
+    united(body, &a[..n], &b[..m], out, at)
 }
 
 pub(crate) fn affected(body: &[u32], out: &mut [u8], at: usize) -> usize {
@@ -96,13 +68,9 @@ pub(crate) fn affected(body: &[u32], out: &mut [u8], at: usize) -> usize {
     named(out, used, set)
 }
 
-fn bit(yes: bool) -> u32 {
-    if yes { 1 } else { 0 }
-}
-
 pub(crate) fn has(body: &[u32], out: &mut [u8], at: usize) -> usize {
     let set = ChannelSet(word(body, 1));
-    say::one(out, at, b"has", bit(set.contains(word(body, 0))))
+    say::one(out, at, b"has", u32::from(set.contains(word(body, 0))))
 }
 
 // The key in the seven words from i on.
