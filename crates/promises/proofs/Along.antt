@@ -6,6 +6,7 @@ use mathlib.Core.List.{List, [], ◌∷◌, ◌++◌, map, map-append, append-ni
 use Prim.Native.Nat.{ℕ}
 use lib.ListN.{length, get_or, drop, replicate}
 use lib.Seq.{append_snoc}
+use Rattle.std.specs.Prelude.{Ok}
 use Rattle.theory.specs.Lists.{◌∈◌}
 use Rattle.theory.proofs.Lists.{append_in}
 use Rattle.selector.specs.Tags.{Tags}
@@ -16,9 +17,7 @@ use Rattle.table.specs.Entering as Memory
 use Rattle.table.specs.Entering.{entered, child_of}
 use Rattle.matcher.specs.declared.MatchState.{MatchState}
 use Rattle.building.specs.Answers.{Build}
-use Rattle.building.specs.declared.Building.{Building}
 use Rattle.entering.specs.Answers.{Enter}
-use Rattle.entering.specs.declared.Entering.{Entering}
 use Rattle.covered.specs.Covered.{Builds, Enters, Reached, After}
 use Rattle.covered.specs.Covered.Reached.{root, child, later}
 use Rattle.covered.specs.Covered.After.{more}
@@ -71,7 +70,7 @@ module _ {w : List ℕ} where
 
 module _ {w : List ℕ} {ranking : ℕ} where
   pub built_called : (t : Table) (stamp : ℕ) → Builds w ranking t → Called w ranking (Memory.built w stamp ranking t) 0 stamp []
-  built_called t stamp (eight, v) = let b : Build w stamp ranking t Building.Built (Memory.built w stamp ranking t) = record { answer = rw v; memory = rw v } in built eight b
+  built_called t stamp (eight, v) = let b : Build w stamp ranking t (Ok tt) (Memory.built w stamp ranking t) = record { answer = rw v; memory = rw v } in built eight b
 
   pub along_called : (xs : List SelectorInputs) {t : Table} {number stamp : ℕ} {path : List Tags} → Called w ranking t number stamp path
       → verdicts_along w t number stamp xs ≡ replicate (length xs) 0
@@ -81,6 +80,6 @@ module _ {w : List ℕ} {ranking : ℕ} where
   along_called (x ∷ xs) {t = t} {number = number} {stamp = stamp} {path = path} c e =
       let v : Enters w t number stamp x = ap (λ (l : List ℕ). get_or l 0 0) e in
       let s : MatchState = record { number = child_of w t number (inputs_row x); stamp = stamp } in
-      let u : Enter w t number stamp (inputs_row x) (Entering.Entered s) (entered w t number (inputs_row x)) = record { answer = rw v; memory = rw v } in
+      let u : Enter w t number stamp (inputs_row x) (Ok s) (entered w t number (inputs_row x)) = record { answer = rw v; memory = rw v } in
       let step = along_called xs (calls-entered c x u) (ap (drop 1) e) in
       subst (Called w ranking (table_along w (entered w t number (inputs_row x)) (child_of w t number (inputs_row x)) xs) (number_along w (entered w t number (inputs_row x)) (child_of w t number (inputs_row x)) xs) stamp) (append_snoc path (inputs_tags x) (map inputs_tags xs)) step

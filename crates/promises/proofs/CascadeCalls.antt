@@ -11,6 +11,12 @@ use lib.ListN.{length, get_or, drop}
 use lib.Seq.{sets, sets-eq}
 use lib.Dec.{ltb, eqb}
 use borrow.Author.Tests.{ltb-true, ltb-false, le-ltb, lt-ltb, eqb-true}
+use Rattle.std.specs.Prelude.{Result, Ok, Err}
+use Rattle.std.specs.Prelude.{Option as Optional}
+use Rattle.lent.specs.declared.Refusal.{Refusal}
+use Rattle.matcher.specs.declared.MatchState.{MatchState}
+use Rattle.looking.specs.declared.StyleSourceRef.{StyleSourceRef}
+use Rattle.channels.specs.declared.ChannelSet.{ChannelSet}
 use Rattle.lent.specs.Refusals.{answered, first_of}
 use Rattle.lent.proofs.Refusals.{first_clear}
 use Rattle.selector.specs.Tags.{Tags}
@@ -20,21 +26,16 @@ use Rattle.style.specs.Entries.{Entry}
 use Rattle.table.specs.Tables.{Table, ranking_in}
 use Rattle.table.specs.Calls.{broken, not_a_state, state_verdict}
 use Rattle.building.specs.Answers.{Build}
-use Rattle.building.specs.declared.Building.{Building}
 use Rattle.building.proofs.Answers.{built_is}
 use Rattle.entering.specs.Answers.{Enter}
-use Rattle.entering.specs.declared.Entering.{Entering}
 use Rattle.winners.specs.Winners.{winner_of, entry_of}
 use Rattle.channels.specs.Channels.{channels_of}
 use Rattle.changeset.specs.Sets.{changing_told, Lists}
-use Rattle.changeset.specs.declared.Changing.{Changing}
 use Rattle.changes.specs.Changes.{changed_of}
 use Rattle.looking.specs.Calls.{winner_in, entry_in}
 use Rattle.looking.specs.Answers.{winning_told, winner_told}
-use Rattle.looking.specs.declared.Winning.{Winning}
 use Rattle.cascade.specs.Calls.{changed_in, pair_verdict, changed_verdict}
 use Rattle.cascade.specs.Answers.{channels_told}
-use Rattle.cascade.specs.declared.Channels.{Channels}
 use Rattle.covered.specs.Covered.{Covered, Reached}
 use Rattle.covered.specs.Covered.After.{none}
 use Rattle.promises.specs.Paths.{rules_on}
@@ -45,16 +46,16 @@ use Rattle.promises.proofs.Changing.{changed_of_paths, same_paths_same_changes}
 -- ---- the ranking, by the contracts of `build` and `enter`
 
 module _ {w : List ℕ} {t t' : Table} where
-  pub build_ranks : {stamp ranking : ℕ} → length t.head ≡ 8 → Build w stamp ranking t Building.Built t' → ranking_in t'.head ≡ ranking
+  pub build_ranks : {stamp ranking : ℕ} → length t.head ≡ 8 → Build w stamp ranking t (Ok tt) t' → ranking_in t'.head ≡ ranking
   build_ranks {stamp} {ranking} eight b = let (v, e) = built_is b in ap (λ (u : Table). ranking_in u.head) e ∙ built_ranking w t stamp ranking (eight, v)
 
-  pub enter_ranks : {number stamp : ℕ} (x : SelectorInputs) {r : Entering} → Covered w t → Enter w t number stamp (inputs_row x) r t' → ranking_in t'.head ≡ ranking_in t.head
+  pub enter_ranks : {number stamp : ℕ} (x : SelectorInputs) {r : Result MatchState Refusal} → Covered w t → Enter w t number stamp (inputs_row x) r t' → ranking_in t'.head ≡ ranking_in t.head
   enter_ranks x c u = ranking_kept w c (enter_after_lem x none u)
 
 -- ---- `winning_source_for_id`, `value_kind`, `get_entry_ref`, `resource_key`: a reached state is not refused, and its path decides the answer
 
 module _ {w : List ℕ} {t : Table} {number stamp : ℕ} {path : List Tags} (r : Reached w t number stamp path) (p : ℕ) where
-  pub winner_told_lem : (a : Winning) → winning_told a ≡ answered (state_verdict w t number stamp) (winner_told w (winner_in w t number p))
+  pub winner_told_lem : (a : Result (Optional StyleSourceRef) Refusal) → winning_told a ≡ answered (state_verdict w t number stamp) (winner_told w (winner_in w t number p))
       → winning_told a ≡ winner_told w (winner_of w (ranking_in t.head) (rules_on w path) p)
   winner_told_lem a e = rw (reached_accepted r) at e ∙ ap (winner_told w) (winner_of_path r p)
 
@@ -66,7 +67,7 @@ module _ {w : List ℕ} {t : Table} {number stamp : ℕ} {path : List Tags} (r :
 -- so two tables of one ranking answer alike, whatever the numbers of the states
 pub winners_alike : {w : List ℕ} {t t' : Table} {k k' stamp stamp' : ℕ} {path : List Tags} → Reached w t k stamp path → Reached w t' k' stamp' path
     → ranking_in t.head ≡ ranking_in t'.head
-    → (p : ℕ) (a a' : Winning)
+    → (p : ℕ) (a a' : Result (Optional StyleSourceRef) Refusal)
     → winning_told a ≡ answered (state_verdict w t k stamp) (winner_told w (winner_in w t k p))
     → winning_told a' ≡ answered (state_verdict w t' k' stamp') (winner_told w (winner_in w t' k' p))
     → winning_told a ≡ winning_told a'
@@ -106,7 +107,7 @@ module _ (w : List ℕ) (t : Table) (old oldStamp new newStamp : ℕ) (out : Lis
       ltb-false (length out) (length list) d
 
   -- where it is accepted: `out` begins with exactly the changed properties, and "An accepted call leaves what stands past its answer"
-  pub changed_listed : {n : ℕ} {after : List ℕ} → Lists (changed_verdict w t old oldStamp new newStamp out) (changed_in w t old new) out (Changing.Listed n) after
+  pub changed_listed : {n : ℕ} {after : List ℕ} → Lists (changed_verdict w t old oldStamp new newStamp out) (changed_in w t old new) out (Ok n) after
       → (n ≡ length (changed_in w t old new)) × (after ≡ changed_in w t old new ++ drop n out)
   changed_listed {n} {after} l = at (eqb verdict 0) refl
     where
@@ -127,7 +128,7 @@ module _ (w : List ℕ) (t : Table) (old oldStamp new newStamp : ℕ) (out : Lis
     unfolding changed_verdict first_of
     verdict_is = let (a, o) = is_state_lem w t old oldStamp there in let (_, n) = is_state_lem w t new newStamp there' in rw (a, o, n)
 
-    module _ {a : Changing} {after : List ℕ} (l : Lists (changed_verdict w t old oldStamp new newStamp out) (changed_in w t old new) out a after) where
+    module _ {a : Result ℕ Refusal} {after : List ℕ} (l : Lists (changed_verdict w t old oldStamp new newStamp out) (changed_in w t old new) out a after) where
       -- exactly if "the buffer for an answer's list is too short", and then nothing is written;
       pub changed_too_short : (changing_told a ≡ 8 ∷ []) ↔ (length out < length (changed_in w t old new))
       changed_too_short = (λ e. short _ refl e, λ h. rw (verdict_is, lt-ltb (length out) (length list) h) at l.answer)
@@ -157,7 +158,7 @@ module _ (w : List ℕ) (t : Table) (old oldStamp new newStamp : ℕ) (out : Lis
 module _ {w : List ℕ} {t t' : Table} {old oldStamp new newStamp old' oldStamp' new' newStamp' : ℕ} {from to : List Tags}
     (r : Reached w t old oldStamp from) (q : Reached w t new newStamp to) (r' : Reached w t' old' oldStamp' from) (q' : Reached w t' new' newStamp' to)
     (ranks : ranking_in t.head ≡ ranking_in t'.head) where
-  pub changes_alike : {out after after' : List ℕ} {a a' : Changing}
+  pub changes_alike : {out after after' : List ℕ} {a a' : Result ℕ Refusal}
       → Lists (changed_verdict w t old oldStamp new newStamp out) (changed_in w t old new) out a after
       → Lists (changed_verdict w t' old' oldStamp' new' newStamp' out) (changed_in w t' old' new') out a' after'
       → (changing_told a ≡ changing_told a') × (after ≡ after')
@@ -169,7 +170,7 @@ module _ {w : List ℕ} {t t' : Table} {old oldStamp new newStamp old' oldStamp'
 
 -- ---- `changed_channels`
 
-module _ (w : List ℕ) (t : Table) (old oldStamp new newStamp : ℕ) (masks : List ℕ) (a : Channels)
+module _ (w : List ℕ) (t : Table) (old oldStamp new newStamp : ℕ) (masks : List ℕ) (a : Result ChannelSet Refusal)
     (e : channels_told a ≡ answered (pair_verdict w t old oldStamp new newStamp) (0 ∷ channels_of masks (changed_in w t old new) ∷ [])) where
   -- of two states of the table it is not refused,
   pub channels_told_lem : state_verdict w t old oldStamp ≡ 0 → state_verdict w t new newStamp ≡ 0 → channels_told a ≡ 0 ∷ channels_of masks (changed_in w t old new) ∷ []
@@ -185,7 +186,7 @@ module _ (w : List ℕ) (t : Table) (old oldStamp new newStamp : ℕ) (masks : L
 pub channels_alike : {w : List ℕ} {t t' : Table} {old oldStamp new newStamp old' oldStamp' new' newStamp' : ℕ} {from to : List Tags}
     → Reached w t old oldStamp from → Reached w t new newStamp to → Reached w t' old' oldStamp' from → Reached w t' new' newStamp' to
     → ranking_in t.head ≡ ranking_in t'.head
-    → (masks : List ℕ) (a a' : Channels)
+    → (masks : List ℕ) (a a' : Result ChannelSet Refusal)
     → channels_told a ≡ answered (pair_verdict w t old oldStamp new newStamp) (0 ∷ channels_of masks (changed_in w t old new) ∷ [])
     → channels_told a' ≡ answered (pair_verdict w t' old' oldStamp' new' newStamp') (0 ∷ channels_of masks (changed_in w t' old' new') ∷ [])
     → channels_told a ≡ channels_told a'

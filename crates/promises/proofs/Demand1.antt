@@ -6,7 +6,7 @@
 -- `Refusing checks told` says so of what the answer tells, `Guarding checks told before after` of that and of memory. There is always one number or none
 -- (Ladders.antt, `decided`, `one_number`). Each test is defined in the specs/ of its crate, under its line of 01's table, and each size in theory's specs/Sizes; w is a sheet's words, t a table's.
 -- Demand1Rest.antt has the calls for which 01's "Order" has no line. Refusal 10 is of house records, which no call here takes: `walk_of` (house, specs/House) says when,
--- and `pieces_print` (walked) that it is printed. The calls that tell a verdict (`admit`, `joining`, `matcher::states`) have the verdict itself for their contract.
+-- and `pieces_print` (walked) that it is printed. The calls that only check (`admit`, `joining`, `matcher::states`) have the verdict itself for their contract.
 use mathlib.Core.Path.{◌≡◌, refl, ap, ◌∙◌}
 use mathlib.Core.Logic.{◌↔◌, ◌⊎◌}
 use mathlib.Core.Bool.{true, not}
@@ -16,6 +16,15 @@ use native.Mathlib.Nat.{add-zero}
 use lib.ListN.{length, get_elem?}
 use lib.Dec.{ltb}
 use denote.Ref.{Bor}
+use Rattle.std.specs.Prelude.{Bool, Result, Option, ⊤}
+use Rattle.lent.specs.declared.Refusal.{Refusal}
+use Rattle.selector.specs.declared.Combinator.{Combinator}
+use Rattle.steps.specs.declared.SelectorStep.{SelectorStep}
+use Rattle.reading.specs.declared.MatchRule.{MatchRule}
+use Rattle.reading.specs.declared.StyleEntry.{StyleEntry}
+use Rattle.matcher.specs.declared.MatchState.{MatchState}
+use Rattle.channels.specs.declared.ChannelSet.{ChannelSet}
+use Rattle.looking.specs.declared.StyleSourceRef.{StyleSourceRef}
 use Rattle.theory.specs.Sizes
 use Rattle.theory.specs.Lists.{sum_below}
 use Rattle.lent.specs.Refusals.{Check, check, checks_below, answered}
@@ -23,55 +32,41 @@ use Rattle.lent.proofs.Refusals.{positive_append, positive_below}
 use Rattle.selector.specs.Rows.{row_at, selector_of}
 use Rattle.selector.specs.Checks.{row_fits, tags_ascend, selector_over, path_over, combinators_off, codes_over, subjects_off, path_verdict}
 use Rattle.selector.specs.Matching.{matching_told, matching_of, fits}
-use Rattle.selector.specs.Diagnosing.{diagnosis_told, diagnosis_of}
-use Rattle.selector.specs.declared.Matching.{Matching}
-use Rattle.selector.specs.declared.Diagnosis.{Diagnosis}
+use Rattle.selector.specs.Diagnosing.{Diagnosis, diagnosis_told, diagnosis_of}
 use Rattle.typed.specs.declared.SelectorInputs.{SelectorInputs}
 use Rattle.typed.specs.Typed.{inputs_row}
 use Rattle.style.specs.Checks.{entries_over, kinds_over, properties_off}
 use Rattle.style.specs.Looking.{kind_told, plain_told, resource_told, kind_of, plain_of, resource_of}
 use Rattle.style.specs.declared.StyleValueKind.{StyleValueKind}
 use Rattle.style.specs.declared.StyleValueRef.{StyleValueRef}
-use Rattle.style.specs.declared.ResourceKey.{ResourceKey}
 use Rattle.sheet.specs.Layout
 use Rattle.sheet.specs.Shape.{sheet_shape}
 use Rattle.sheet.specs.Sheets.{rule_at}
 use Rattle.sheet.specs.Laying.{ids_held}
 use Rattle.reading.specs.Reading.{rule_told, entry_told, combinator_told, step_told, rule_verdict, rule_numbers, entry_numbers, combinator_numbers, StepRead}
-use Rattle.reading.specs.declared.RuleAnswer.{RuleAnswer}
-use Rattle.reading.specs.declared.EntryAnswer.{EntryAnswer}
-use Rattle.reading.specs.declared.CombinatorAnswer.{CombinatorAnswer}
-use Rattle.reading.specs.declared.StepAnswer.{StepAnswer}
 use Rattle.given.specs.Given.{Group, step_count, combinator_count, entry_count, steps_from, combinators_from, properties_from, kinds_from, numbers_from, selector_given}
 use Rattle.given.specs.Pushing.{all_entries_in, rules_over, sums_over, indexes_over, rule_checks, style_push_verdict, group_verdict, cascade_verdict, pushed_cascade}
 use Rattle.builder.specs.Answers.{pushing_told, Push}
-use Rattle.builder.specs.declared.Pushing.{Pushing}
 use Rattle.made.proofs.Pushed.{nothing_accepted, nothing_pushed}
 use Rattle.table.specs.Tables.{Table}
 use Rattle.table.specs.Entering.{root_lacks_room, lacks_room}
 use Rattle.table.specs.Calls.{broken, not_a_state, build_verdict, state_verdict, enter_verdict}
 use Rattle.matcher.specs.Answers.{listing_told, Part, Rules}
-use Rattle.matcher.specs.declared.Listing.{Listing}
 use Rattle.building.specs.Answers.{building_told, Build}
-use Rattle.building.specs.declared.Building.{Building}
 use Rattle.entering.specs.Answers.{entering_told, Enter}
-use Rattle.entering.specs.declared.Entering.{Entering}
 use Rattle.channels.specs.Channels.{channels_of}
 use Rattle.changeset.specs.Sets.{changing_told, Lists}
-use Rattle.changeset.specs.declared.Changing.{Changing}
 use Rattle.changes.specs.Changes.{resource_dependent}
 use Rattle.looking.specs.Calls.{winner_in, entry_in}
 use Rattle.looking.specs.Answers.{winning_told, winner_told}
-use Rattle.looking.specs.declared.Winning.{Winning}
 use Rattle.cascade.specs.Calls.{changed_in, pair_verdict, changed_verdict, resource_verdict}
 use Rattle.cascade.specs.Answers.{channels_told}
-use Rattle.cascade.specs.declared.Channels.{Channels}
 use Rattle.promises.specs.Refusing.{First, None, InTurn, Refusing, Guarding}
 use Rattle.promises.proofs.Ladders.{refusing, otherwise, guarding, nested, yes_no_accepts, kind_accepts, plain_accepts, resource_accepts, entry_accepts, combinator_accepts, there_accepts, winner_accepts, diagnosis_accepts}
 
 -- ---- "entering 11, 4, 2, 1, 5"
 
-pub enter_subject_refuses : (w : List ℕ) (t : Table) (number stamp : ℕ) (x : SelectorInputs) {r : Entering} {t' : Table} → Enter w t number stamp (inputs_row x) r t'
+pub enter_subject_refuses : (w : List ℕ) (t : Table) (number stamp : ℕ) (x : SelectorInputs) {r : Result MatchState Refusal} {t' : Table} → Enter w t number stamp (inputs_row x) r t'
     → Guarding
     (check 11 (broken w t)
     ∷ check 4 (not_a_state t.head number stamp)
@@ -89,7 +84,7 @@ module _ (w : List ℕ) (t : Table) (number stamp : ℕ) where
   abbrev pub of_state : List Check
   of_state = check 11 (broken w t) ∷ check 4 (not_a_state t.head number stamp) ∷ []
 
-  pub matching_part_refuses : {r : Listing} → Part w t number stamp r → Refusing of_state (listing_told r)
+  pub matching_part_refuses : {r : Result (ℕ × ℕ) Refusal} → Part w t number stamp r → Refusing of_state (listing_told r)
   unfolding state_verdict
   matching_part_refuses c = refusing refl (_, refl) c.answer
 
@@ -101,19 +96,19 @@ module _ (w : List ℕ) (t : Table) (number stamp : ℕ) where
       (c.numbers ∙ otherwise refl _ [] n x, λ i. (c.block i, front i))
 
   module _ (property : ℕ) where
-    pub winning_source_for_id_refuses : (r : Winning) → winning_told r ≡ answered (state_verdict w t number stamp) (winner_told w (winner_in w t number property)) → Refusing of_state (winning_told r)
+    pub winning_source_for_id_refuses : (r : Result (Option StyleSourceRef) Refusal) → winning_told r ≡ answered (state_verdict w t number stamp) (winner_told w (winner_in w t number property)) → Refusing of_state (winning_told r)
     unfolding state_verdict
     winning_source_for_id_refuses r e = refusing refl (winner_accepts w (winner_in w t number property)) e
 
-    pub value_kind_refuses : (r : StyleValueKind) → kind_told r ≡ answered (state_verdict w t number stamp) (kind_of (entry_in w t number property)) → Refusing of_state (kind_told r)
+    pub value_kind_refuses : (r : Result (Option StyleValueKind) Refusal) → kind_told r ≡ answered (state_verdict w t number stamp) (kind_of (entry_in w t number property)) → Refusing of_state (kind_told r)
     unfolding state_verdict
     value_kind_refuses r e = refusing refl (kind_accepts (entry_in w t number property)) e
 
-    pub get_entry_ref_refuses : (r : StyleValueRef) → plain_told r ≡ answered (state_verdict w t number stamp) (plain_of (entry_in w t number property)) → Refusing of_state (plain_told r)
+    pub get_entry_ref_refuses : (r : Result (Option StyleValueRef) Refusal) → plain_told r ≡ answered (state_verdict w t number stamp) (plain_of (entry_in w t number property)) → Refusing of_state (plain_told r)
     unfolding state_verdict
     get_entry_ref_refuses r e = refusing refl (plain_accepts (entry_in w t number property)) e
 
-    pub resource_key_refuses : (r : ResourceKey) → resource_told r ≡ answered (state_verdict w t number stamp) (resource_of (entry_in w t number property)) → Refusing of_state (resource_told r)
+    pub resource_key_refuses : (r : Result (Option ℕ) Refusal) → resource_told r ≡ answered (state_verdict w t number stamp) (resource_of (entry_in w t number property)) → Refusing of_state (resource_told r)
     unfolding state_verdict
     resource_key_refuses r e = refusing refl (resource_accepts (entry_in w t number property)) e
 
@@ -123,29 +118,29 @@ module _ (w : List ℕ) (number : ℕ) where
   abbrev pub of_rule : List Check
   of_rule = check 11 (not (sheet_shape w)) ∷ check 9 (not (ltb number (Layout.rules_in w))) ∷ []
 
-  pub rule_refuses : (r : RuleAnswer) → rule_told r ≡ answered (rule_verdict w number) (rule_numbers (rule_at w number)) → Refusing of_rule (rule_told r)
+  pub rule_refuses : (r : Result MatchRule Refusal) → rule_told r ≡ answered (rule_verdict w number) (rule_numbers (rule_at w number)) → Refusing of_rule (rule_told r)
   unfolding rule_verdict
   rule_refuses r e = refusing refl (_, refl) e
 
   module _ (i : ℕ) where
-    pub rule_step_refuses : {r : StepAnswer} → StepRead w number i r → Refusing of_rule (step_told r.verdict)
+    pub rule_step_refuses : {r : Result (Option SelectorStep) Refusal} → StepRead w number i r → Refusing of_rule (step_told r)
     unfolding rule_verdict
     rule_step_refuses c = refusing refl (there_accepts (ltb i (length (rule_at w number).selector)) (0 ∷ 1 ∷ []) (_, refl)) c.verdict
 
-    pub rule_combinator_refuses : (r : CombinatorAnswer)
+    pub rule_combinator_refuses : (r : Result (Option Combinator) Refusal)
         → combinator_told r ≡ answered (rule_verdict w number) (combinator_numbers (get_elem? (rule_at w number).selector (suc i)))
         → Refusing of_rule (combinator_told r)
     unfolding rule_verdict
     rule_combinator_refuses r e = refusing refl (combinator_accepts (get_elem? (rule_at w number).selector (suc i))) e
 
-    pub rule_entry_refuses : (r : EntryAnswer) → entry_told r ≡ answered (rule_verdict w number) (entry_numbers (get_elem? (rule_at w number).entries i)) → Refusing of_rule (entry_told r)
+    pub rule_entry_refuses : (r : Result (Option StyleEntry) Refusal) → entry_told r ≡ answered (rule_verdict w number) (entry_numbers (get_elem? (rule_at w number).entries i)) → Refusing of_rule (entry_told r)
     unfolding rule_verdict
     rule_entry_refuses r e = refusing refl (entry_accepts (get_elem? (rule_at w number).entries i)) e
 
 -- ---- "Changed list 11, 4 (old, then new), 8; channels of two states 11, 4."
 
 module _ (w : List ℕ) (t : Table) (old oldStamp new newStamp : ℕ) where
-  pub changed_properties_refuses : {out after : List ℕ} {r : Changing} → Lists (changed_verdict w t old oldStamp new newStamp out) (changed_in w t old new) out r after
+  pub changed_properties_refuses : {out after : List ℕ} {r : Result ℕ Refusal} → Lists (changed_verdict w t old oldStamp new newStamp out) (changed_in w t old new) out r after
       → Guarding
       (check 11 (broken w t)
       ∷ check 4 (not_a_state t.head old oldStamp)
@@ -156,7 +151,7 @@ module _ (w : List ℕ) (t : Table) (old oldStamp new newStamp : ℕ) where
   unfolding changed_verdict
   changed_properties_refuses c = guarding refl _ (_, refl) c.answer c.memory
 
-  pub changed_channels_refuses : (masks : List ℕ) (r : Channels)
+  pub changed_channels_refuses : (masks : List ℕ) (r : Result ChannelSet Refusal)
       → channels_told r ≡ answered (pair_verdict w t old oldStamp new newStamp) (0 ∷ channels_of masks (changed_in w t old new) ∷ [])
       → Refusing (check 11 (broken w t) ∷ check 4 (not_a_state t.head old oldStamp) ∷ check 4 (not_a_state t.head new newStamp) ∷ []) (channels_told r)
   unfolding pair_verdict
@@ -164,7 +159,7 @@ module _ (w : List ℕ) (t : Table) (old oldStamp new newStamp : ℕ) where
 
 -- ---- "Resource-dependent list 11, 8."
 
-pub resource_dependent_properties_refuses : (w : List ℕ) {out after : List ℕ} {r : Changing} → Lists (resource_verdict w out) (resource_dependent w) out r after
+pub resource_dependent_properties_refuses : (w : List ℕ) {out after : List ℕ} {r : Result ℕ Refusal} → Lists (resource_verdict w out) (resource_dependent w) out r after
     → Guarding (check 11 (not (sheet_shape w)) ∷ check 8 (ltb (length out) (length (resource_dependent w))) ∷ []) (changing_told r) out after
 unfolding resource_verdict
 resource_dependent_properties_refuses w c = guarding refl _ (_, refl) c.answer c.memory
@@ -181,17 +176,17 @@ module _ (steps : List ℕ) (n : ℕ) (combinators : List ℕ) (c : ℕ) (path :
       ∷ check 1 (subjects_off path m)
       ∷ []
 
-  pub matches_path_refuses : (r : Matching) → matching_told r ≡ matching_of steps n combinators c path m → Refusing of_path (matching_told r)
+  pub matches_path_refuses : (r : Result Bool Refusal) → matching_told r ≡ matching_of steps n combinators c path m → Refusing of_path (matching_told r)
   unfolding matching_of path_verdict
   matches_path_refuses r e = refusing refl (yes_no_accepts (fits steps n combinators path m)) e
 
-  pub diagnose_path_refuses : (r : Diagnosis) → diagnosis_told r ≡ diagnosis_of steps n combinators c path m → Refusing of_path (diagnosis_told r)
+  pub diagnose_path_refuses : (r : Result Diagnosis Refusal) → diagnosis_told r ≡ diagnosis_of steps n combinators c path m → Refusing of_path (diagnosis_told r)
   unfolding diagnosis_of path_verdict
   diagnose_path_refuses r e = refusing refl (diagnosis_accepts steps n combinators path m) e
 
 -- ---- "Pushing a style 11, 6 (origin), 2, 6, 1, 7." Of 2: one direct style more, its entries, and those of the whole sheet
 
-pub push_style_refuses : (w : List ℕ) (origin : ℕ) (properties kinds numbers : List ℕ) (n : ℕ) {pushed after : List ℕ} {r : Pushing}
+pub push_style_refuses : (w : List ℕ) (origin : ℕ) (properties kinds numbers : List ℕ) (n : ℕ) {pushed after : List ℕ} {r : Result ⊤ Refusal}
     → Push (style_push_verdict w origin properties kinds numbers n) w pushed r after
     → Guarding
     (check 11 (not (sheet_shape w))
@@ -233,7 +228,7 @@ module _ (w : List ℕ) (origin : ℕ) (g : Group) (n : ℕ) where
   of_group = before_rules ++ (checks_below n rule_in_turn ++ after_rules)
 
   -- `push_rules`; `push_rule` is a group of one, whose three counts are its arguments
-  pub push_rules_refuses : {pushed after : List ℕ} {r : Pushing} → Push (group_verdict w origin g n) w pushed r after → Guarding of_group (pushing_told r) w after
+  pub push_rules_refuses : {pushed after : List ℕ} {r : Result ⊤ Refusal} → Push (group_verdict w origin g n) w pushed r after → Guarding of_group (pushing_told r) w after
   unfolding group_verdict rule_checks
   push_rules_refuses c = guarding (positive_append (checks_below n rule_in_turn) after_rules (positive_below rule_in_turn (λ k. refl) n) refl) _ (_, refl) c.answer c.memory
 
@@ -244,14 +239,14 @@ module _ (w : List ℕ) (origin : ℕ) (g : Group) (n : ℕ) where
 
 -- ---- "Pushing a cascade 11, 2, 7; one without direct styles and rules is accepted and alters nothing." 11: the sheet, then the one that is pushed
 
-pub push_cascade_refuses : (w v : List ℕ) {pushed after : List ℕ} {r : Pushing} → Push (cascade_verdict w v) w pushed r after
+pub push_cascade_refuses : (w v : List ℕ) {pushed after : List ℕ} {r : Result ⊤ Refusal} → Push (cascade_verdict w v) w pushed r after
     → Guarding
     (check 11 (not (sheet_shape w)) ∷ check 11 (not (sheet_shape v)) ∷ check 2 (sums_over w v) ∷ check 7 (indexes_over w v) ∷ [])
     (pushing_told r) w after
 unfolding cascade_verdict
 push_cascade_refuses w v c = guarding refl _ (_, refl) c.answer c.memory
 
-pub push_bare_cascade : (w v : List ℕ) → sheet_shape w ≡ true → sheet_shape v ≡ true → Layout.styles_in v ≡ 0 → Layout.rules_in v ≡ 0 → {after : List ℕ} {r : Pushing}
+pub push_bare_cascade : (w v : List ℕ) → sheet_shape w ≡ true → sheet_shape v ≡ true → Layout.styles_in v ≡ 0 → Layout.rules_in v ≡ 0 → {after : List ℕ} {r : Result ⊤ Refusal}
     → Push (cascade_verdict w v) w (pushed_cascade w v) r after → (pushing_told r ≡ 0 ∷ []) × (after ≡ w)
 push_bare_cascade w v s s' no-styles no_rules c =
     let e = nothing_accepted w v s no-styles no_rules s' in
@@ -259,7 +254,7 @@ push_bare_cascade w v s s' no-styles no_rules c =
 
 -- ---- "Build 11 (sheet), 6, 5." It is lent three of the table's five pieces, and its contract says this whatever the other two are
 
-pub build_refuses : (w : List ℕ) (stamp ranking : ℕ) (t : Table) {r : Building} {t' : Table} → Build w stamp ranking t r t'
+pub build_refuses : (w : List ℕ) (stamp ranking : ℕ) (t : Table) {r : Result ⊤ Refusal} {t' : Table} → Build w stamp ranking t r t'
     → Guarding (check 11 (not (sheet_shape w)) ∷ check 6 (ltb Sizes.RANKING ranking) ∷ check 5 (root_lacks_room w t.states t.cursors) ∷ []) (building_told r) t t'
 unfolding build_verdict
 build_refuses w stamp ranking t c = guarding refl _ (_, refl) c.answer c.memory

@@ -8,6 +8,10 @@ use Prim.Native.Nat.{ℕ, ◌≤◌, ◌<◌}
 use lib.ListN.{length, get_or, take, replicate}
 use lib.Seq.{take-append_seam}
 use denote.Ref.{Bor}
+use Rattle.std.specs.Prelude.{Result, Ok}
+use Rattle.std.specs.Prelude.{Option as Optional}
+use Rattle.lent.specs.declared.Refusal.{Refusal}
+use Rattle.looking.specs.declared.StyleSourceRef.{StyleSourceRef}
 use Rattle.theory.specs.Sizes
 use Rattle.theory.specs.Lists.{◌∈◌, Ascending}
 use Rattle.theory.specs.Paths.{FitsTail}
@@ -26,10 +30,8 @@ use Rattle.entering.proofs.Answers.{enter_refused_is}
 use Rattle.winners.specs.Winners as winners
 use Rattle.winners.specs.Winners.{Place, style}
 use Rattle.changeset.specs.Sets.{Lists}
-use Rattle.changeset.specs.declared.Changing.{Changing}
 use Rattle.looking.specs.Calls.{winner_in}
 use Rattle.looking.specs.Answers.{winning_told, winner_told}
-use Rattle.looking.specs.declared.Winning.{Winning}
 use Rattle.looking.proofs.Distinct.{winning_distinct}
 use Rattle.cascade.specs.Calls.{changed_in, changed_verdict}
 use Rattle.covered.specs.Covered.{Builds, Reached}
@@ -78,7 +80,7 @@ module _ {w : List ℕ} {ranking : ℕ} where
     same_rules g g' = rules_given_lem (called_reached c) g ∙ sym (rules_given_lem (called_reached c') g')
 
     -- `winning_source_for_id`, by its contract
-    pub same_winners : (p : ℕ) (a a' : Winning)
+    pub same_winners : (p : ℕ) (a a' : Result (Optional StyleSourceRef) Refusal)
         → winning_told a ≡ answered (state_verdict w t number stamp) (winner_told w (winner_in w t number p))
         → winning_told a' ≡ answered (state_verdict w t' number' stamp') (winner_told w (winner_in w t' number' p))
         → a ≡ a'
@@ -119,14 +121,14 @@ winner_distinct w x y e = sym (read_place_lem w x) ∙ ap read_place e ∙ read_
 
 module _ {w : List ℕ} (made : Made w) {ranking : ℕ} {t : Table} {old oldStamp new newStamp : ℕ} {from to : List Tags}
     (c : Called w ranking t old oldStamp from) (c' : Called w ranking t new newStamp to) {out after : List ℕ} {n : ℕ}
-    (l : Lists (changed_verdict w t old oldStamp new newStamp out) (changed_in w t old new) out (Changing.Listed n) after) where
+    (l : Lists (changed_verdict w t old oldStamp new newStamp out) (changed_in w t old new) out (Ok n) after) where
   listed : take n after ≡ changed_in w t old new
   listed =
       let (e, f) = changed_listed w t old oldStamp new newStamp out l in
       rw (f, e) (take-append_seam (changed_in w t old new) _)
 
   -- `changed_properties` and, in both states, `winning_source_for_id`; a property id is a u16
-  pub changes_exactly : (p : ℕ) → p < Sizes.PROPERTY-IDS → (a b : Winning)
+  pub changes_exactly : (p : ℕ) → p < Sizes.PROPERTY-IDS → (a b : Result (Optional StyleSourceRef) Refusal)
       → winning_told a ≡ answered (state_verdict w t old oldStamp) (winner_told w (winner_in w t old p))
       → winning_told b ≡ answered (state_verdict w t new newStamp) (winner_told w (winner_in w t new p))
       → (p ∈ take n after) ↔ (a ≢ b)

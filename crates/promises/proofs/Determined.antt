@@ -6,6 +6,11 @@ use Prim.Native.Nat.{ℕ, suc}
 use lib.ListN.{length, get_elem?}
 use lib.Dec.{eqb}
 use denote.Ref.{Bor}
+use Rattle.std.specs.Prelude.{Result, Option, ⊤}
+use Rattle.lent.specs.declared.Refusal.{Refusal}
+use Rattle.typed.specs.declared.TypeTag.{TypeTag}
+use Rattle.typed.specs.declared.PartTag.{PartTag}
+use Rattle.matcher.specs.declared.MatchState.{MatchState}
 use Rattle.theory.specs.Weight.{weight_of}
 use Rattle.lent.specs.Refusals.{answered, one_if}
 use Rattle.property.specs.declared.PropertyId.{PropertyId}
@@ -14,8 +19,6 @@ use Rattle.selector.specs.Diagnosing.{diagnosis_told, diagnosis_of}
 use Rattle.selector.specs.Weighing.{weighing_told, weighing_of, weight_told}
 use Rattle.selector.proofs.Distinct.{matching_distinct, diagnosis_distinct, weighing_distinct}
 use Rattle.typed.specs.declared.SelectorInputs.{SelectorInputs}
-use Rattle.typed.specs.declared.TypeChoice.{TypeChoice}
-use Rattle.typed.specs.declared.PartChoice.{PartChoice}
 use Rattle.typed.specs.declared.ClassId.{ClassId}
 use Rattle.typed.specs.declared.PseudoClassId.{PseudoClassId}
 use Rattle.typed.specs.Typed.{inputs_row}
@@ -30,22 +33,18 @@ use Rattle.sheet.specs.Sheets.{counts_for, rule_at, style_at}
 use Rattle.reading.specs.Reading.{counting_told, emptiness_told, rule_told, style_told, entry_told, combinator_told, sheet_verdict, rule_verdict, weight_verdict, emptiness_of, rule_numbers, style_numbers, entry_numbers, combinator_numbers, style_there, StepRead}
 use Rattle.reading.proofs.Distinct.{counting_distinct, emptiness_distinct, rule_distinct, style_distinct, entry_distinct, combinator_distinct, step_read_distinct}
 use Rattle.builder.specs.Answers.{Push}
-use Rattle.builder.specs.declared.Pushing.{Pushing}
 use Rattle.builder.proofs.Pushes.{push_determined}
 use Rattle.table.specs.Tables.{Table, table}
 use Rattle.table.specs.Calls.{state_verdict}
 use Rattle.matcher.specs.Answers.{Part, Rules}
 use Rattle.matcher.proofs.Distinct.{part_determined, rules_determined}
 use Rattle.building.specs.Answers.{Build}
-use Rattle.building.specs.declared.Building.{Building}
 use Rattle.building.proofs.Distinct.{build_determined}
 use Rattle.entering.specs.Answers.{Enter}
-use Rattle.entering.specs.declared.Entering.{Entering}
 use Rattle.entering.proofs.Answers.{enter_determined}
 use Rattle.cursor.specs.Yielding.{next_told, next_of, index_after}
 use Rattle.cursor.proofs.Distinct as Cursor
 use Rattle.cursor.specs.declared.RuleCursor.{RuleCursor}
-use Rattle.cursor.specs.declared.NextRule.{NextRule}
 use Rattle.cursor.specs.declared.Yielded.{Yielded}
 use Rattle.bits.specs.Bits.{bits_in}
 use Rattle.channels.specs.Channels.{channels_of, lowest_told, lowest_of}
@@ -53,7 +52,6 @@ use Rattle.channels.specs.declared.ChannelSet.{ChannelSet}
 use Rattle.channels.proofs.Distinct.{lowest_determined, affected_determined}
 use Rattle.changeset.specs.Sets as Sets
 use Rattle.changeset.specs.Sets.{changing_told, Lists, set_of, count_verdict}
-use Rattle.changeset.specs.declared.Changing.{Changing}
 use Rattle.changeset.proofs.Distinct as SetAnswers
 use Rattle.looking.specs.Calls.{winner_in, entry_in}
 use Rattle.looking.specs.Answers.{winning_told, winner_told}
@@ -101,8 +99,8 @@ module _ (steps : List ℕ) (n : ℕ) (combinators : List ℕ) (c : ℕ) where
 
 -- ---- owned: `SelectorInputsOwned::new` (no part), `with_part`; steps: `SelectorStep::matches`; `specificity`, `level3_specificity`
 
-pub owned_determined : (t : TypeChoice) (p : PartChoice) (classes : List ClassId) (n : ℕ) (pseudos : List PseudoClassId) (m : ℕ) → Determined (Owned t p classes n pseudos m)
-owned_determined t p classes n pseudos m a b h k = let (e, f) = owned_distinct a b h k in λ i. record { verdict = e i; inputs = f i }
+pub owned_determined : (t : Option TypeTag) (p : Option PartTag) (classes : List ClassId) (n : ℕ) (pseudos : List PseudoClassId) (m : ℕ) → Determined (Owned t p classes n pseudos m)
+owned_determined t p classes n pseudos m a b h k = owned_distinct a b h k
 
 pub step_matches_determined : (s : SelectorStep) (x : SelectorInputs) → Determined (λ r. matching_told r ≡ step_matching s x)
 step_matches_determined s x = told_determined matching_distinct (step_matching s x)
@@ -156,7 +154,7 @@ module _ (w : List ℕ) where
     rule_determined = told_determined rule_distinct (answered (rule_verdict w number) (rule_numbers (rule_at w number)))
 
     pub rule_step_determined : (i : ℕ) → Determined (StepRead w number i)
-    rule_step_determined i a b h k = let (e, f) = step_read_distinct a b h k in λ j. record { verdict = e j; step = f j }
+    rule_step_determined i a b h k = step_read_distinct a b h k
 
     pub rule_combinator_determined : (i : ℕ)
         → Determined (λ r. combinator_told r ≡ answered (rule_verdict w number) (combinator_numbers (get_elem? (rule_at w number).selector (suc i))))
@@ -179,20 +177,20 @@ module _ (w : List ℕ) where
 
 -- ---- builder: `new`, `push_style`, `push_rules`, `push_rule`, `push_cascade`, each with its own verdict and its own words pushed; the sheet at exit
 
-pub pushes_determined : (verdict : ℕ) (before pushed : List ℕ) → Determined (λ (o : Pushing × List ℕ). Push verdict before pushed o.0 o.1)
+pub pushes_determined : (verdict : ℕ) (before pushed : List ℕ) → Determined (λ (o : Result ⊤ Refusal × List ℕ). Push verdict before pushed o.0 o.1)
 pushes_determined verdict before pushed a b p q = pairs (push_determined p q)
 
 -- ---- matcher, building, entering. `build` is lent the first three pieces of a table, and its contract holds whatever the other two are; `enter_subject` is lent all five
 
 pub builds_determined : (w : List ℕ) (stamp ranking : ℕ) (head states cursors : List ℕ)
-    → Determined (λ (o : Building × List ℕ × List ℕ × List ℕ).
+    → Determined (λ (o : Result ⊤ Refusal × List ℕ × List ℕ × List ℕ).
     (m t : List ℕ) → Build w stamp ranking (table head states cursors m t) o.0 (table o.1 o.2 o.3 m t))
 builds_determined w stamp ranking head states cursors a b p q =
     let (e, f) = build_determined (p [] []) (q [] []) in
     λ i. (e i, (f i).head, (f i).states, (f i).cursors)
 
 module _ (w : List ℕ) (t : Table) (number stamp : ℕ) where
-  pub enters_determined : (x : SelectorInputs) → Determined (λ (o : Entering × Table). Enter w t number stamp (inputs_row x) o.0 o.1)
+  pub enters_determined : (x : SelectorInputs) → Determined (λ (o : Result MatchState Refusal × Table). Enter w t number stamp (inputs_row x) o.0 o.1)
   enters_determined x a b p q = pairs (enter_determined p q)
 
   pub matching_part_determined : Determined (Part w t number stamp)
@@ -211,7 +209,7 @@ pub rule_at_determined : (rules : List ℕ) (index : ℕ) → Determined (λ r. 
 rule_at_determined rules index a b p q = Cursor.next_determined rules index p q
 
 pub next_determined : (c : RuleCursor)
-    → Determined (λ (o : NextRule × RuleCursor).
+    → Determined (λ (o : Option ℕ × RuleCursor).
     (next_told o.0 ≡ next_of c.rules.now c.index) × (o.1.rules ≡ c.rules) × (o.1.index ≡ index_after c.rules.now c.index))
 next_determined c a b p q =
     pairs (Cursor.next_determined c.rules.now c.index p.0 q.0, Cursor.cursor_determined c.rules (index_after c.rules.now c.index) (p.1, p.2) (q.1, q.2))
@@ -229,7 +227,7 @@ lowest_channel_determined mask a b p q = lowest_determined mask p q
 
 -- ---- a list written into `out`, with `out` at exit: `changeset::from_property_ids`, `union`, `changed_properties`, `resource_dependent_properties`
 
-pub listing_determined : (verdict : ℕ) (list out : List ℕ) → Determined (λ (o : Changing × List ℕ). Lists verdict list out o.0 o.1)
+pub listing_determined : (verdict : ℕ) (list out : List ℕ) → Determined (λ (o : Result ℕ Refusal × List ℕ). Lists verdict list out o.0 o.1)
 listing_determined verdict list out a b p q = pairs (SetAnswers.lists_determined p q)
 
 -- ---- changeset: `len`, `is_empty`

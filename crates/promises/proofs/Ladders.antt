@@ -10,17 +10,17 @@ use native.Mathlib.Decide.{dec_lt}
 use lib.ListN.{length, get_or}
 use lib.Dec.{ltb, eqb}
 use borrow.Author.Tests.{ltb-true, ne_eqb}
+use Rattle.std.specs.Prelude.{Ok, Err}
+use Rattle.selector.specs.declared.SelectorMismatch.TheVariants as mismatch
 use Rattle.theory.specs.Lists.{spread}
 use Rattle.theory.specs.Paths.{Comb, child, descendant, Part}
 use Rattle.theory.proofs.Lists.{and_left, and_right}
 use Rattle.lent.specs.Refusals.{Check, first_of, checks_below, answered}
 use Rattle.lent.proofs.Refusals.{first_here, first_next, positive}
 use Rattle.selector.specs.Tags.{Tags}
-use Rattle.selector.specs.Matching.{matching_told, yes_no}
-use Rattle.selector.specs.Diagnosing.{diagnosis_told, is_fit, is_mismatch, some_fit, other_errors, last_or, tried, judge, diagnose}
+use Rattle.selector.specs.Matching.{matching_told}
+use Rattle.selector.specs.Diagnosing.{Diagnosis, Fits, diagnosis_told, is_fit, is_mismatch, some_fit, other_errors, last_or, tried, judge, diagnose}
 use Rattle.diagnosing.proofs.Judging.{tried_one}
-use Rattle.selector.specs.declared.Diagnosis.{Diagnosis}
-use Rattle.selector.specs.declared.Diagnosis.TheVariants as diagnosis
 use Rattle.style.specs.Entries.{Entry}
 use Rattle.style.specs.Looking.{kind_of, plain_of, resource_of, place_in}
 use Rattle.reading.specs.Reading.{entry_numbers, combinator_numbers}
@@ -218,7 +218,7 @@ nested first checks n last m = (
 
 -- ---- what calls tell that accept begins with 0
 
-pub yes_no_accepts : (b : Bool) → Accepts (matching_told (yes_no b))
+pub yes_no_accepts : (b : Bool) → Accepts (matching_told (Ok b))
 yes_no_accepts true = (1 ∷ [], refl)
 yes_no_accepts false = (0 ∷ [], refl)
 
@@ -274,7 +274,7 @@ winner_accepts w (some (rule r)) = (_, refl)
 
 -- a diagnosis is no refusal
 abbrev Judged : Diagnosis → Type 0
-Judged d = Accepts (diagnosis_told d)
+Judged d = Accepts (diagnosis_told (Ok d))
 
 either : (b : Bool) (x y : Diagnosis) → Judged x → Judged y → Judged (cond b x y)
 either true x y p q = p
@@ -285,19 +285,19 @@ unfolding tried some_fit other_errors last_or
 try_judged f h from zero last q = q
 try_judged f h from (suc n) last q =
     subst Judged (sym (tried_one last (f from) (spread f (suc from) n)))
-    (either (is_fit (f from)) diagnosis.Fits _ (_, refl) (try_judged f h (suc from) n _ (either (is_mismatch (f from)) last (f from) q (h from))))
+    (either (is_fit (f from)) Fits _ (_, refl) (try_judged f h (suc from) n _ (either (is_mismatch (f from)) last (f from) q (h from))))
 
 module _ (hit : ℕ → ℕ → Bool) (far : ℕ → Bool) (m : ℕ) where
-  at_judged : (k i : ℕ) (d : Diagnosis) → Judged d → Judged (cond (ltb i m) (cond (hit k i) d (diagnosis.StepMismatch k i)) (diagnosis.MissingSubject k i))
-  at_judged k i d p = either (ltb i m) _ _ (either (hit k i) d (diagnosis.StepMismatch k i) p (_, refl)) (_, refl)
+  at_judged : (k i : ℕ) (d : Diagnosis) → Judged d → Judged (cond (ltb i m) (cond (hit k i) d (Err (mismatch.StepMismatch k i))) (Err (mismatch.MissingSubject k i)))
+  at_judged k i d p = either (ltb i m) _ _ (either (hit k i) d (Err (mismatch.StepMismatch k i)) p (_, refl)) (_, refl)
 
   judge_judged : (after k i : ℕ) → Judged (judge hit far m after k i)
   unfolding judge
-  judge_judged zero k i = at_judged k i _ (either (ltb (i + 1) m) (diagnosis.TrailingSubjects (k + 1) (i + 1)) diagnosis.Fits (_, refl) (_, refl))
+  judge_judged zero k i = at_judged k i _ (either (ltb (i + 1) m) (Err (mismatch.TrailingSubjects (k + 1) (i + 1))) Fits (_, refl) (_, refl))
   judge_judged (suc after) k i =
-      at_judged k i _ (either (far k) _ _ (try_judged (λ j. judge hit far m after (k + 1) j) (judge_judged after (k + 1)) (i + 1) (m - (i + 1)) (diagnosis.MissingDescendant (k + 1) (i + 1)) (_, refl)) (judge_judged after (k + 1) (i + 1)))
+      at_judged k i _ (either (far k) _ _ (try_judged (λ j. judge hit far m after (k + 1) j) (judge_judged after (k + 1)) (i + 1) (m - (i + 1)) (Err (mismatch.MissingDescendant (k + 1) (i + 1))) (_, refl)) (judge_judged after (k + 1) (i + 1)))
 
-pub diagnosis_accepts : (steps : List ℕ) (n : ℕ) (combinators path : List ℕ) (m : ℕ) → Accepts (diagnosis_told (diagnose steps n combinators path m))
+pub diagnosis_accepts : (steps : List ℕ) (n : ℕ) (combinators path : List ℕ) (m : ℕ) → Accepts (diagnosis_told (Ok (diagnose steps n combinators path m)))
 unfolding diagnose
-diagnosis_accepts steps zero combinators path m = either (eqb m 0) diagnosis.Fits diagnosis.EmptySelectorWithNonEmptyPath (_, refl) (_, refl)
+diagnosis_accepts steps zero combinators path m = either (eqb m 0) Fits (Err mismatch.EmptySelectorWithNonEmptyPath) (_, refl) (_, refl)
 diagnosis_accepts steps (suc n) combinators path m = judge_judged _ _ m n 0 0

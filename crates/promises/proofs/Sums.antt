@@ -10,6 +10,7 @@ use lib.ListN.{length, get_or}
 use lib.Dec.{ltb}
 use lib.IntN.{pos, negsuc}
 use borrow.Author.Tests.{ltb-true, ltb-false, not-false}
+use Rattle.std.specs.Prelude.{Ok}
 use Rattle.theory.specs.Lists.{compare, total}
 use Rattle.theory.specs.Weight.{Counts, Weight, weight_of}
 use Rattle.theory.proofs.Lists.{or_first, or_second, sort_length}
@@ -19,7 +20,6 @@ use Rattle.lent.specs.Refusals.{answered}
 use Rattle.lent.proofs.Refusals.{first_clear}
 use Rattle.selector.specs.declared.Specificity.{Specificity}
 use Rattle.selector.specs.Tags.{as_sets}
-use Rattle.selector.specs.declared.Weighing.TheVariants.{Weighs}
 use Rattle.selector.specs.Weighing.{is_set, counts_of, Summed, Unsaturated, weighing_told, weight_told}
 use Rattle.typed.specs.Typed.{type_of, part_of, class_number, pseudo_number, over}
 use Rattle.steps.specs.declared.SelectorStep.{SelectorStep}
@@ -36,11 +36,11 @@ use Rattle.promises.specs.Level3.{Standard}
 abbrev read_weight : List ℕ → Weight
 read_weight l = record { first = get_or l 1 0; second = get_or l 2 0; third = get_or l 3 0; fourth = get_or l 4 0 }
 
-pub weighs : (ranking v : ℕ) (counts : List Counts) (s : Specificity) → weighing_told (Weighs s) ≡ answered v (weight_told (weight_of ranking counts))
+pub weighs : (ranking v : ℕ) (counts : List Counts) (s : Specificity) → weighing_told (Ok s) ≡ answered v (weight_told (weight_of ranking counts))
     → (v ≡ 0) × (weight_from s ≡ weight_of ranking counts)
 weighs ranking v counts s e =
     let z = answers.accepted v _ _ e in
-    let q : weighing_told (Weighs s) ≡ weight_told (weight_of ranking counts) = rw z at e in
+    let q : weighing_told (Ok s) ≡ weight_told (weight_of ranking counts) = rw z at e in
     (z, ap read_weight q)
 
 module _ (counts : List Counts) (s : Specificity) where

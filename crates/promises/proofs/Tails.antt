@@ -11,6 +11,8 @@ use lib.ListN.{length, get_or, drop, length-drop}
 use lib.Seq.{get_or-drop, drop-nil}
 use lib.Dec.{ltb}
 use borrow.Author.Tests.{le-ltb, ltb-false, not-false}
+use Rattle.std.specs.Prelude.{Result, Ok}
+use Rattle.lent.specs.declared.Refusal.{Refusal}
 use Rattle.theory.specs.Paths.{Selector, FitsTail}
 use Rattle.theory.proofs.Lists.{or_first, or_second}
 use Rattle.theory.proofs.Level3.{represents_tail}
@@ -18,15 +20,11 @@ use Rattle.lent.specs.All.{all_below}
 use Rattle.lent.specs.Refusals.{first_of}
 use Rattle.lent.proofs.All.{all_at, all_intro}
 use Rattle.lent.proofs.Refusals.{first_clear}
-use Rattle.selector.specs.declared.Matching.{Matching}
-use Rattle.selector.specs.declared.Matching.TheVariants.{Yes}
-use Rattle.selector.specs.declared.Diagnosis.{Diagnosis}
-use Rattle.selector.specs.declared.Diagnosis.TheVariants as diagnosis
 use Rattle.selector.specs.Tags.{Tags, step_matches}
 use Rattle.selector.specs.Rows.{subject_at, selector_of, path_of}
 use Rattle.selector.specs.Checks.{row_fits, selector_over, path_over, combinators_off, codes_over, tags_ascend, subjects_off, path_verdict}
-use Rattle.selector.specs.Matching.{fits_from, fits, matching_told, yes_no, matching_of}
-use Rattle.selector.specs.Diagnosing.{diagnosis_told, diagnosis_of}
+use Rattle.selector.specs.Matching.{fits_from, fits, matching_told, matching_of}
+use Rattle.selector.specs.Diagnosing.{Diagnosis, Fits, diagnosis_told, diagnosis_of}
 use Rattle.diagnosing.proofs.Agree.{diagnosis_fits}
 use Rattle.matching.proofs.Answers.{told_is}
 use Rattle.selector.proofs.Distinct.{matching_distinct, diagnosis_distinct}
@@ -81,18 +79,18 @@ module _ (path : List ℕ) (m j : ℕ) (h : j ≤ m) where
 -- ---- what a call that is not refused answers
 
 module _ (steps : List ℕ) (n : ℕ) (combinators : List ℕ) (c : ℕ) (path : List ℕ) (m : ℕ) (accepts : path_verdict steps n combinators c path m ≡ 0) where
-  pub yes_fits : (r : Matching) → matching_told r ≡ matching_of steps n combinators c path m → (r ≡ Yes) ↔ (fits steps n combinators path m ≡ true)
+  pub yes_fits : (r : Result Bool Refusal) → matching_told r ≡ matching_of steps n combinators c path m → (r ≡ Ok true) ↔ (fits steps n combinators path m ≡ true)
   unfolding matching_of
   yes_fits r e = at (fits steps n combinators path m) (matching_distinct r _ (e ∙ told_is steps n combinators c path m _ refl accepts _))
     where
-      at : (b : Bool) → r ≡ yes_no b → (r ≡ Yes) ↔ (b ≡ true)
+      at : (b : Bool) → r ≡ Ok b → (r ≡ Ok true) ↔ (b ≡ true)
       at true q = (λ _. refl, λ _. q)
       at false q = (
-        λ y. let z : ◌≡◌ {A = ℕ} 0 1 = ap (λ (a : Matching). get_or (matching_told a) 1 0) (sym q ∙ y) in absurd (omega arith),
+        λ y. let z : ◌≡◌ {A = ℕ} 0 1 = ap (λ (a : Result Bool Refusal). get_or (matching_told a) 1 0) (sym q ∙ y) in absurd (omega arith),
         λ t. absurd (let z : ◌≡◌ {A = ℕ} 0 1 = cc in omega arith),
       )
 
-  pub diagnosed_fits : (d : Diagnosis) → diagnosis_told d ≡ diagnosis_of steps n combinators c path m → (d ≡ diagnosis.Fits) ↔ (fits steps n combinators path m ≡ true)
+  pub diagnosed_fits : (d : Result Diagnosis Refusal) → diagnosis_told d ≡ diagnosis_of steps n combinators c path m → (d ≡ Ok Fits) ↔ (fits steps n combinators path m ≡ true)
   unfolding diagnosis_of
   diagnosed_fits d f =
       let q = diagnosis_distinct d _ (f ∙ told_is steps n combinators c path m _ refl accepts _) in

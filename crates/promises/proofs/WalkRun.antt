@@ -4,6 +4,10 @@ use mathlib.Core.List.{List, [], ◌∷◌}
 use Prim.Native.Nat.{ℕ, ◌≤◌}
 use native.Mathlib.Omega.{arith}
 use lib.ListN.{length, drop}
+use Rattle.std.specs.Prelude.{Result, Ok, Option, ⊤}
+use Rattle.lent.specs.declared.Refusal.{Refusal}
+use Rattle.matcher.specs.declared.MatchState.{MatchState}
+use Rattle.looking.specs.declared.StyleSourceRef.{StyleSourceRef}
 use Rattle.lent.specs.Refusals.{answered}
 use Rattle.typed.specs.Typed.{inputs_row}
 use Rattle.sheet.specs.Sheets.{sheet_of}
@@ -12,14 +16,10 @@ use Rattle.made.proofs.Promises.{made_shaped}
 use Rattle.table.specs.Tables.{Table, selectors_of, ranking_in, state_at}
 use Rattle.table.specs.Calls.{state_verdict}
 use Rattle.building.specs.Answers.{Build}
-use Rattle.building.specs.declared.Building.{Building}
 use Rattle.entering.specs.Answers.{Enter}
-use Rattle.entering.specs.declared.Entering.{Entering}
 use Rattle.changeset.specs.Sets.{changing_told, Lists}
-use Rattle.changeset.specs.declared.Changing.{Changing}
 use Rattle.looking.specs.Calls.{winner_in}
 use Rattle.looking.specs.Answers.{winning_told, winner_told}
-use Rattle.looking.specs.declared.Winning.{Winning}
 use Rattle.cascade.specs.Calls.{changed_in, changed_verdict}
 use Rattle.covered.specs.Covered.{Reached}
 use Rattle.covered.proofs.Reached.{reached_covered}
@@ -34,13 +34,13 @@ use Rattle.promises.proofs.WalkWinners.{walk_told_1, walk_winner_3, walk_changed
 -- Of a made sheet with these selectors: build, then "type 1 into 0; type 9 into 1; type 5 into 1; type 5 into 0".
 -- `Lent`: room for four states, four cursors and three matched numbers; `walk` lends far more
 module _ {w : List ℕ} (made : Made w) (e : selectors_of w ≡ walk) {stamp ranking : ℕ} (ranks : ranking ≤ 1) {t0 t1 t2 t3 t4 t5 : Table} (eight : length t0.head ≡ 8) (lent : Lent t0)
-    {r0 : Building} (b : Build w stamp ranking t0 r0 t1)
-    {r1 : Entering} (a1 : Enter w t1 0 stamp (inputs_row (subject 1)) r1 t2)
-    {r2 : Entering} (a2 : Enter w t2 1 stamp (inputs_row (subject 9)) r2 t3)
-    {r3 : Entering} (a3 : Enter w t3 1 stamp (inputs_row (subject 5)) r3 t4)
-    {r4 : Entering} (a4 : Enter w t4 0 stamp (inputs_row (subject 5)) r4 t5) where
+    {r0 : Result ⊤ Refusal} (b : Build w stamp ranking t0 r0 t1)
+    {r1 : Result MatchState Refusal} (a1 : Enter w t1 0 stamp (inputs_row (subject 1)) r1 t2)
+    {r2 : Result MatchState Refusal} (a2 : Enter w t2 1 stamp (inputs_row (subject 9)) r2 t3)
+    {r3 : Result MatchState Refusal} (a3 : Enter w t3 1 stamp (inputs_row (subject 5)) r3 t4)
+    {r4 : Result MatchState Refusal} (a4 : Enter w t4 0 stamp (inputs_row (subject 5)) r4 t5) where
   -- every call is accepted: "state 1", "state 1", "state 2", "state 3"
-  pub walk_answers : (r0 ≡ Building.Built) × (r1 ≡ state 1 stamp) × (r2 ≡ state 1 stamp) × (r3 ≡ state 2 stamp) × (r4 ≡ state 3 stamp)
+  pub walk_answers : (r0 ≡ Ok tt) × (r1 ≡ state 1 stamp) × (r2 ≡ state 1 stamp) × (r3 ≡ state 2 stamp) × (r4 ≡ state 3 stamp)
   walk_answers =
       let (q0, h0) = build_starts e (made_shaped made) ranks eight lent b in
       let (q1, h1) = enter_1 e h0 a1 in
@@ -61,11 +61,11 @@ module _ {w : List ℕ} (made : Made w) (e : selectors_of w ≡ walk) {stamp ran
 
 -- Of a made sheet that holds what the example pushes, in ranking 0: the same calls, and then "changed 3, 2; changed 0, 1; winner 2, 1; winner 2, 3"
 module _ {w : List ℕ} (made : Made w) (e : sheet_of w ≡ walk_sheet) {stamp : ℕ} {t0 t1 t2 t3 t4 t5 : Table} (eight : length t0.head ≡ 8) (lent : Lent t0)
-    {r0 : Building} (b : Build w stamp 0 t0 r0 t1)
-    {r1 : Entering} (a1 : Enter w t1 0 stamp (inputs_row (subject 1)) r1 t2)
-    {r2 : Entering} (a2 : Enter w t2 1 stamp (inputs_row (subject 9)) r2 t3)
-    {r3 : Entering} (a3 : Enter w t3 1 stamp (inputs_row (subject 5)) r3 t4)
-    {r4 : Entering} (a4 : Enter w t4 0 stamp (inputs_row (subject 5)) r4 t5) where
+    {r0 : Result ⊤ Refusal} (b : Build w stamp 0 t0 r0 t1)
+    {r1 : Result MatchState Refusal} (a1 : Enter w t1 0 stamp (inputs_row (subject 1)) r1 t2)
+    {r2 : Result MatchState Refusal} (a2 : Enter w t2 1 stamp (inputs_row (subject 9)) r2 t3)
+    {r3 : Result MatchState Refusal} (a3 : Enter w t3 1 stamp (inputs_row (subject 5)) r3 t4)
+    {r4 : Result MatchState Refusal} (a4 : Enter w t4 0 stamp (inputs_row (subject 5)) r4 t5) where
   record Left : Type 0 where
     at_0 : Reached w t5 0 stamp []
     at_1 : Reached w t5 1 stamp (typed 1 ∷ [])
@@ -81,7 +81,7 @@ module _ {w : List ℕ} (made : Made w) (e : sheet_of w ≡ walk_sheet) {stamp :
       let (_, h2, _) = enter_9 s h1 a2 in
       let (_, h3) = enter_5 s h2 a3 in
       let (_, five) = enter_5_root s h3 a4 in
-      let built : Build w stamp 0 t0 Building.Built t1 = subst (λ (r : Building). Build w stamp 0 t0 r t1) q0 b in
+      let built : Build w stamp 0 t0 (Ok tt) t1 = subst (λ (r : Result ⊤ Refusal). Build w stamp 0 t0 r t1) q0 b in
       record {
         at_0 = enter_keeps (subject 5) (h3.at 0 (omega arith)) a4;
         at_1 = enter_keeps (subject 5) (h3.at 1 (omega arith)) a4;
@@ -95,7 +95,7 @@ module _ {w : List ℕ} (made : Made w) (e : sheet_of w ≡ walk_sheet) {stamp :
             ∙ build_ranks eight built;
       }
 
-  module _ {out after : List ℕ} {c : Changing} where
+  module _ {out after : List ℕ} {c : Result ℕ Refusal} where
     -- "changed 2: 1 2"
     pub walk_changed_3_2 : Lists (changed_verdict w t5 3 stamp 2 stamp out) (changed_in w t5 3 2) out c after → 2 ≤ length out
         → (changing_told c ≡ 0 ∷ 2 ∷ []) × (after ≡ 1 ∷ 2 ∷ drop 2 out)
@@ -115,7 +115,7 @@ module _ {w : List ℕ} (made : Made w) (e : sheet_of w ≡ walk_sheet) {stamp :
         let new = reached_accepted left.at_1 in
         (rw z at (changed_told w t5 0 stamp 1 stamp out old new l fits), rw z at (changed_written w t5 0 stamp 1 stamp out old new l fits))
 
-  module _ (a : Winning) where
+  module _ (a : Result (Option StyleSourceRef) Refusal) where
     -- "winner 1: rule 1 source 1"
     pub walk_winner_2_1 : winning_told a ≡ answered (state_verdict w t5 2 stamp) (winner_told w (winner_in w t5 2 1)) → winning_told a ≡ 0 ∷ 2 ∷ 1 ∷ 1 ∷ []
     walk_winner_2_1 h = rw (reached_accepted left.at_2) at h ∙ walk_told_1 e left.ranks left.at_2

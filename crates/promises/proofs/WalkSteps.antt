@@ -9,6 +9,8 @@ use lib.ListN.{length, get_or}
 use lib.Seq.{length-sets}
 use lib.Dec.{eqb}
 use borrow.Author.Tests.{lt-ltb, le-leb, le-ltb}
+use Rattle.std.specs.Prelude.{Result, Ok, ⊤}
+use Rattle.lent.specs.declared.Refusal.{Refusal}
 use Rattle.theory.specs.Lists.{ascends_from, sum_below}
 use Rattle.theory.specs.States.{Sheet, State, starts, enter}
 use Rattle.theory.proofs.States.{run_snoc}
@@ -23,11 +25,9 @@ use Rattle.table.specs.Entering.{roots_of, root_lacks_room, built, next_state, r
 use Rattle.table.specs.Calls.{build_verdict}
 use Rattle.matcher.specs.declared.MatchState.{MatchState}
 use Rattle.building.specs.Answers.{Build}
-use Rattle.building.specs.declared.Building.{Building}
 use Rattle.building.proofs.Answers.{built_is}
 use Rattle.building.proofs.Distinct.{building_distinct}
 use Rattle.entering.specs.Answers.{Enter}
-use Rattle.entering.specs.declared.Entering.{Entering}
 use Rattle.entering.proofs.Answers.{entered_is, entering_distinct}
 use Rattle.covered.specs.Covered.{Covered, Reached, Enters, Numbered}
 use Rattle.covered.specs.Covered.Numbered.{reused, next}
@@ -46,11 +46,11 @@ proper n = record { classes = omega arith; pseudos = omega arith; rise = refl }
 -- ---- room
 
 module _ {w : List ℕ} {t t' : Table} (lent : Lent t) where
-  lent_built : {stamp ranking : ℕ} → Build w stamp ranking t Building.Built t' → Lent t'
+  lent_built : {stamp ranking : ℕ} → Build w stamp ranking t (Ok tt) t' → Lent t'
   unfolding built
   lent_built b = let (_, q) = built_is b in rw q (record { rows = rw length-sets lent.rows; cursors = rw length-sets lent.cursors; matched = lent.matched })
 
-  lent_entered : {number stamp : ℕ} (x : SelectorInputs) {s : MatchState} → Covered w t → Enter w t number stamp (inputs_row x) (Entering.Entered s) t' → Lent t'
+  lent_entered : {number stamp : ℕ} (x : SelectorInputs) {s : MatchState} → Covered w t → Enter w t number stamp (inputs_row x) (Ok s) t' → Lent t'
   lent_entered {number} {stamp} x c u =
       let (v, _, _, q) = entered_is u in
       let stay = (enters_right w (covered_sound w c) number stamp x v).kept.stay in
@@ -113,12 +113,12 @@ old_number (next none e c) h = absurd (omega arith)
 
 module _ {w : List ℕ} {t t' : Table} {number stamp : ℕ} where
   -- an accepted entering answers a child
-  answers : (n : ℕ) {r : Entering} → Enters w t number stamp (subject n) → Enter w t number stamp (inputs_row (subject n)) r t'
+  answers : (n : ℕ) {r : Result MatchState Refusal} → Enters w t number stamp (subject n) → Enter w t number stamp (inputs_row (subject n)) r t'
       → (k : ℕ) × (r ≡ state k stamp) × Enter w t number stamp (inputs_row (subject n)) (state k stamp) t'
   answers n {r} v u =
       let k = child_of w t number (inputs_row (subject n)) in
       let q : r ≡ state k stamp = entering_distinct r (state k stamp) (rw v at u.answer) in
-      (k, q, subst (λ (z : Entering). Enter w t number stamp (inputs_row (subject n)) z t') q u)
+      (k, q, subst (λ (z : Result MatchState Refusal). Enter w t number stamp (inputs_row (subject n)) z t') q u)
 
   reaches : (n : ℕ) {k : ℕ} {path : List Tags} → Reached w t number stamp path → Enter w t number stamp (inputs_row (subject n)) (state k stamp) t' → Reached w t' k stamp (path ++ typed n ∷ [])
   unfolding inputs_tags
@@ -171,7 +171,7 @@ module _ {w : List ℕ} (e : selectors_of w ≡ walk) {stamp : ℕ} {t : Table} 
       let (i, j) = long e two after_1_5 in
       (omega (arith, rw h.count at c), omega (arith, rw h.count at m))
 
-module _ {w : List ℕ} (e : selectors_of w ≡ walk) {stamp : ℕ} {t t' : Table} {r : Entering} where
+module _ {w : List ℕ} (e : selectors_of w ≡ walk) {stamp : ℕ} {t t' : Table} {r : Result MatchState Refusal} where
   -- "type 1 into 0"
   pub enter_1 : States w stamp t start → Enter w t 0 stamp (inputs_row (subject 1)) r t' → (r ≡ state 1 stamp) × States w stamp t' then_1
   enter_1 h u =
@@ -261,8 +261,8 @@ module _ {w : List ℕ} (e : selectors_of w ≡ walk) {stamp : ℕ} {t t' : Tabl
       new f g h c (suc (suc (suc d))) l = absurd (omega arith)
 
 -- build
-pub build_starts : {w : List ℕ} (e : selectors_of w ≡ walk) → sheet_shape w ≡ true → {stamp ranking : ℕ} → ranking ≤ 1 → {t t' : Table} → length t.head ≡ 8 → Lent t → {r : Building} → Build w stamp ranking t r t'
-    → (r ≡ Building.Built) × States w stamp t' start
+pub build_starts : {w : List ℕ} (e : selectors_of w ≡ walk) → sheet_shape w ≡ true → {stamp ranking : ℕ} → ranking ≤ 1 → {t t' : Table} → length t.head ≡ 8 → Lent t → {r : Result ⊤ Refusal} → Build w stamp ranking t r t'
+    → (r ≡ Ok tt) × States w stamp t' start
 unfolding build_verdict root_lacks_room first_of
 build_starts {w} e shape {stamp} {ranking} ranks {t} {t'} eight lent {r} u =
     let v : build_verdict w ranking t.states t.cursors ≡ 0 = rw (
@@ -271,8 +271,8 @@ build_starts {w} e shape {stamp} {ranking} ranks {t} {t'} eight lent {r} u =
       le-leb 3 (length t.states) (omega (arith, lent.rows)),
       le-leb (length (roots_of w)) (length t.cursors) (omega (arith, lent.cursors, ap (λ (s : Sheet Tags). length (starts 0 s)) e)),
     ) in
-    let q : r ≡ Building.Built = building_distinct r Building.Built (rw v at u.answer) in
-    let b : Build w stamp ranking t Building.Built t' = subst (λ (z : Building). Build w stamp ranking t z t') q u in
+    let q : r ≡ Ok tt = building_distinct r (Ok tt) (rw v at u.answer) in
+    let b : Build w stamp ranking t (Ok tt) t' = subst (λ (z : Result ⊤ Refusal). Build w stamp ranking t z t') q u in
     (q, record { at = place (build_reaches eight b); count = build_one_state eight b; lent = lent_built lent b })
   where
     place : Reached w t' 0 stamp [] → (d : ℕ) → d < 1 → Reached w t' d stamp (get_or start d [])

@@ -1,14 +1,12 @@
 -- 01's "Marked examples": P1 to P8 as questions to public calls, each with the answer that 01 marks. Assumes nothing.
 use mathlib.Core.List.{List, [], ◌∷◌, ◌++◌, flat_map, map}
-use Rattle.std.specs.Prelude.{ℕ, ◌-◌, length, replicate}
+use Rattle.std.specs.Prelude.{true, false, Ok, Err, Option, Some, None, ℕ, ◌-◌, length, replicate}
 use Rattle.lent.specs.Refusals.{answered}
-use Rattle.selector.specs.declared.Matching.{Matching}
-use Rattle.selector.specs.declared.Diagnosis.{Diagnosis}
+use Rattle.selector.specs.declared.SelectorMismatch.{SelectorMismatch}
+use Rattle.selector.specs.declared.SelectorMismatch.TheVariants.{EmptySelectorWithNonEmptyPath, MissingSubject, TrailingSubjects, MissingDescendant}
 use Rattle.selector.specs.Matching.{matching_told}
-use Rattle.selector.specs.Diagnosing.{diagnosis_told, diagnosis_of}
+use Rattle.selector.specs.Diagnosing.{Fits, diagnosis_told, diagnosis_of}
 use Rattle.typed.specs.declared.ClassId.{ClassId}
-use Rattle.typed.specs.declared.TypeChoice.{TypeChoice}
-use Rattle.typed.specs.declared.PartChoice.{PartChoice}
 use Rattle.typed.specs.declared.SelectorInputs.{SelectorInputs}
 use Rattle.typed.specs.Typed.{no_pseudos, inputs_of, inputs_row}
 use Rattle.steps.specs.declared.SelectorStep.{SelectorStep}
@@ -30,7 +28,7 @@ class_id n = record { 0 = n }
 
 -- `SelectorStep::type_tag`; `SelectorInputs::typed` is `subject`
 abbrev pub step : ℕ → SelectorStep
-step n = asking (TypeChoice.Set (record { 0 = n })) PartChoice.Unset
+step n = asking (Some (record { 0 = n })) None
 
 abbrev a : ℕ
 a = 1
@@ -50,10 +48,10 @@ descendant = 1
 
 -- `SelectorStep::class`, `with_class`, and `SelectorInputs::new`
 abbrev requiring : ℕ → ℕ → SelectorStep
-requiring i j = asking_class (asking_class (asking TypeChoice.Unset PartChoice.Unset) (class_id i)) (class_id j)
+requiring i j = asking_class (asking_class (asking None None) (class_id i)) (class_id j)
 
 abbrev having : List ℕ → SelectorInputs
-having classes = inputs_of TypeChoice.Unset PartChoice.Unset (map class_id classes ++ replicate (16 - length classes) (class_id 0)) (length classes) (no_pseudos 16) 0
+having classes = inputs_of None None (map class_id classes ++ replicate (16 - length classes) (class_id 0)) (length classes) (no_pseudos 16) 0
 
 -- ---- entering subject after subject
 
@@ -111,20 +109,20 @@ one_rule = given (2 ∷ 1 ∷ 0 ∷ []) (step_row (step a) ++ step_row (step b))
 unfoldable pub table : List Example
 table =
     -- "P1 empty on []: fits."
-    example (diagnosed [] [] []) (diagnosis_told Diagnosis.Fits)
+    example (diagnosed [] [] []) (diagnosis_told (Ok Fits))
     -- "P2 empty on [a]: EmptySelectorWithNonEmptyPath."
-    ∷ example (diagnosed [] [] (map subject (a ∷ []))) (diagnosis_told Diagnosis.EmptySelectorWithNonEmptyPath)
+    ∷ example (diagnosed [] [] (map subject (a ∷ []))) (diagnosis_told (Ok (Err EmptySelectorWithNonEmptyPath)))
     -- "P3 a b on [a,b,c]: TrailingSubjects 2, 2."
-    ∷ example (diagnosed (map step (a ∷ b ∷ [])) (descendant ∷ []) (map subject (a ∷ b ∷ c ∷ []))) (diagnosis_told (Diagnosis.TrailingSubjects 2 2))
+    ∷ example (diagnosed (map step (a ∷ b ∷ [])) (descendant ∷ []) (map subject (a ∷ b ∷ c ∷ []))) (diagnosis_told (Ok (Err (TrailingSubjects 2 2))))
     -- "P4 a b on [a,b,b]: fits."
-    ∷ example (diagnosed (map step (a ∷ b ∷ [])) (descendant ∷ []) (map subject (a ∷ b ∷ b ∷ []))) (diagnosis_told Diagnosis.Fits)
+    ∷ example (diagnosed (map step (a ∷ b ∷ [])) (descendant ∷ []) (map subject (a ∷ b ∷ b ∷ []))) (diagnosis_told (Ok Fits))
     -- "P5 a b>c on [a,b,a,b]: MissingSubject 2, 4."
-    ∷ example (diagnosed (map step (a ∷ b ∷ c ∷ [])) (descendant ∷ child ∷ []) (map subject (a ∷ b ∷ a ∷ b ∷ []))) (diagnosis_told (Diagnosis.MissingSubject 2 4))
+    ∷ example (diagnosed (map step (a ∷ b ∷ c ∷ [])) (descendant ∷ child ∷ []) (map subject (a ∷ b ∷ a ∷ b ∷ []))) (diagnosis_told (Ok (Err (MissingSubject 2 4))))
     -- "P6 a b>c on [a,b,a]: MissingDescendant 1, 1."
-    ∷ example (diagnosed (map step (a ∷ b ∷ c ∷ [])) (descendant ∷ child ∷ []) (map subject (a ∷ b ∷ a ∷ []))) (diagnosis_told (Diagnosis.MissingDescendant 1 1))
+    ∷ example (diagnosed (map step (a ∷ b ∷ c ∷ [])) (descendant ∷ child ∷ []) (map subject (a ∷ b ∷ a ∷ []))) (diagnosis_told (Ok (Err (MissingDescendant 1 1))))
     -- "P7 classes {2,5} within {2,3,5}: yes; within {2,6}: no."
-    ∷ example (matches (requiring 2 5) (having (2 ∷ 3 ∷ 5 ∷ []))) (matching_told Matching.Yes)
-    ∷ example (matches (requiring 2 5) (having (2 ∷ 6 ∷ []))) (matching_told Matching.No)
+    ∷ example (matches (requiring 2 5) (having (2 ∷ 3 ∷ 5 ∷ []))) (matching_told (Ok true))
+    ∷ example (matches (requiring 2 5) (having (2 ∷ 6 ∷ []))) (matching_told (Ok false))
     -- "P8 entering c, a, b lists a>b.": rule 0
     ∷ example (lists one_rule 1 (map subject (c ∷ a ∷ b ∷ []))) (0 ∷ 0 ∷ [])
     ∷ []

@@ -1,17 +1,16 @@
 -- 01's `walk` example: its sheet, its subjects, the room it takes, and what its calls answer. Assumes nothing.
 use Rattle.std.proofs.Math.Option.{none, some}
-use Rattle.std.specs.Prelude.{List, [], ◌∷◌, map, ℕ, ◌≤◌, length}
+use Rattle.std.specs.Prelude.{Result, Ok, Option, Some, None, List, [], ◌∷◌, map, ℕ, ◌≤◌, length}
+use Rattle.lent.specs.declared.Refusal.{Refusal}
 use Rattle.theory.specs.Paths.{Comb, child, descendant, Part}
 use Rattle.theory.specs.States.{Sheet, State, run}
 use Rattle.selector.specs.Tags.{Tags, step_matches}
 use Rattle.typed.specs.declared.SelectorInputs.{SelectorInputs}
-use Rattle.typed.specs.declared.TypeChoice.{TypeChoice}
-use Rattle.typed.specs.declared.PartChoice.{PartChoice}
 use Rattle.typed.specs.Typed.{tagged}
 use Rattle.style.specs.Entries.{Entry}
 use Rattle.sheet.specs.Sheets
 use Rattle.table.specs.Tables.{Table}
-use Rattle.entering.specs.declared.Entering.{Entering}
+use Rattle.matcher.specs.declared.MatchState.{MatchState}
 
 -- a subject that has a type alone; a step that asks for it
 abbrev pub typed : ℕ → Tags
@@ -22,7 +21,7 @@ step c n = record { comb = c; step = typed n }
 
 -- the subject as the calls are given it
 abbrev pub subject : ℕ → SelectorInputs
-subject n = tagged (TypeChoice.Set (record { 0 = n })) PartChoice.Unset
+subject n = tagged (Some (record { 0 = n })) None
 
 abbrev pub entry : ℕ → ℕ → ℕ → Entry
 entry property kind number = record { property = property; kind = kind; number = number }
@@ -53,5 +52,5 @@ pub record Lent (t : Table) : Type 0 where
   pub matched : 3 ≤ length t.matched
 
 -- an entering that answers this state
-abbrev pub state : ℕ → ℕ → Entering
-state number stamp = Entering.Entered (record { number = number; stamp = stamp })
+abbrev pub state : ℕ → ℕ → Result MatchState Refusal
+state number stamp = Ok (record { number = number; stamp = stamp })
