@@ -8,7 +8,7 @@ ghost use Rattle.given.specs.Pushing.{index_checks, form_checks, style_size_chec
 use checks::held::{check_combinators, selector_over};
 use given::held::{all_entries, held_ids};
 use lent::Refusal;
-use lent::held::{rest, rest_halves};
+use lent::held::rest;
 use lent::words::{wide, word};
 use sheet::layout;
 use sheet::shape::is_sheet;
@@ -184,7 +184,7 @@ fn check_rule_from(
         n,
         rest(combinators, c),
         m,
-        rest_halves(properties, q),
+        rest(properties, q),
         rest(kinds, q),
         rest(numbers, q),
         l,

@@ -10,7 +10,7 @@ ghost use Rattle.cascade.specs.Answers.{channels_told};
 use crate::held;
 use channels::{ChannelSet, affected_channels};
 use lent::Refusal;
-use lent::words::copy_halves_into;
+use lent::words::copy_into;
 use matcher::MatchState;
 use matcher::states::{check_state, not_a_state};
 
@@ -64,7 +64,7 @@ pub fn changed_properties(
     if out.len() < n {
         return Err(Refusal::BufferTooShort);
     }
-    copy_halves_into(out, 0, &list[..n]);
+    copy_into(out, 0, &list[..n]);
     Ok(n)
 }
 
