@@ -6,6 +6,7 @@ ghost use Rattle.given.specs.Given.{given};
 ghost use Rattle.given.specs.Pushing.{style_push_verdict, pushed_style, group_verdict, pushed_group};
 ghost use Rattle.builder.specs.Answers.{Pushes};
 
+use given::{EntryLists, GroupLists};
 use lent::Refusal;
 
 pub fn push_style(
@@ -19,8 +20,13 @@ pub fn push_style(
     requires { sheet_shape sheet.old ≡ true }
     ensures { Pushes (style_push_verdict sheet.old origin properties.now kinds.now numbers.now count) sheet.old (pushed_style sheet.old origin properties.now kinds.now numbers.now count) (verdict_of result) sheet.new }
 {
-    admit::held::check_style(sheet, origin, properties, kinds, numbers, count)?;
-    group::held::put_style(sheet, origin, properties, kinds, numbers, count);
+    let entries = EntryLists {
+        properties,
+        kinds,
+        numbers,
+    };
+    admit::sources::check_style_held(sheet, origin, entries, count)?;
+    group::held::put_style(sheet, origin, entries, count);
     Ok(())
 }
 
@@ -38,27 +44,17 @@ pub fn push_rules(
     requires { sheet_shape sheet.old ≡ true }
     ensures { Pushes (group_verdict sheet.old origin (given rules.now steps.now combinators.now properties.now kinds.now numbers.now) rule_count) sheet.old (pushed_group sheet.old origin (given rules.now steps.now combinators.now properties.now kinds.now numbers.now) rule_count) (verdict_of result) sheet.new }
 {
-    admit::held::check_group(
-        sheet,
-        origin,
+    let lists = GroupLists {
         rules,
-        rule_count,
         steps,
         combinators,
-        properties,
-        kinds,
-        numbers,
-    )?;
-    group::held::put_group(
-        sheet,
-        origin,
-        rules,
-        rule_count,
-        steps,
-        combinators,
-        properties,
-        kinds,
-        numbers,
-    );
+        entries: EntryLists {
+            properties,
+            kinds,
+            numbers,
+        },
+    };
+    admit::sources::check_group_held(sheet, origin, lists, rule_count)?;
+    group::held::put_group(sheet, origin, lists, rule_count);
     Ok(())
 }

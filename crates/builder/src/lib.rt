@@ -7,6 +7,7 @@ ghost use Rattle.given.specs.Given.{given};
 ghost use Rattle.builder.specs.Answers.{Push};
 ghost use Rattle.given.specs.Pushing.{empty_verdict, style_push_verdict, pushed_style, group_verdict, pushed_group, cascade_verdict, pushed_cascade};
 
+use given::{EntryLists, GroupLists};
 use lent::Refusal;
 use lent::words::copy_into;
 use sheet::layout;
@@ -35,8 +36,13 @@ pub fn push_style(
 ) -> Result<(), Refusal>
     ensures { Push (style_push_verdict sheet.old origin properties.now kinds.now numbers.now count) sheet.old (pushed_style sheet.old origin properties.now kinds.now numbers.now count) result sheet.new }
 {
-    admit::sources::check_style(sheet, origin, properties, kinds, numbers, count)?;
-    group::held::put_style(sheet, origin, properties, kinds, numbers, count);
+    let entries = EntryLists {
+        properties,
+        kinds,
+        numbers,
+    };
+    admit::sources::check_style(sheet, origin, entries, count)?;
+    group::held::put_style(sheet, origin, entries, count);
     Ok(())
 }
 
@@ -83,28 +89,18 @@ pub fn push_rules(
 ) -> Result<(), Refusal>
     ensures { Push (group_verdict sheet.old origin (given rules.now steps.now combinators.now properties.now kinds.now numbers.now) rule_count) sheet.old (pushed_group sheet.old origin (given rules.now steps.now combinators.now properties.now kinds.now numbers.now) rule_count) result sheet.new }
 {
-    admit::sources::check_group(
-        sheet,
-        origin,
+    let lists = GroupLists {
         rules,
-        rule_count,
         steps,
         combinators,
-        properties,
-        kinds,
-        numbers,
-    )?;
-    group::held::put_group(
-        sheet,
-        origin,
-        rules,
-        rule_count,
-        steps,
-        combinators,
-        properties,
-        kinds,
-        numbers,
-    );
+        entries: EntryLists {
+            properties,
+            kinds,
+            numbers,
+        },
+    };
+    admit::sources::check_group(sheet, origin, lists, rule_count)?;
+    group::held::put_group(sheet, origin, lists, rule_count);
     Ok(())
 }
 

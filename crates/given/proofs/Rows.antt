@@ -90,27 +90,18 @@ module _ (properties kinds numbers : List ℕ) (n : ℕ) where
 
   module _ (base room e : ℕ) (w x y z : List ℕ)
       (p : (base ≤ 100000) × (room ≤ 4096) × (e ≤ 4096) × (n ≤ length properties) × (n ≤ length kinds) × (n ≤ length numbers)) where
-    pub entries_put : x ≡ sets w (base + e) (take (n - 0) (drop 0 properties))
-        → y ≡ sets x (base + room + e) (take (n - 0) (drop 0 kinds))
-        → z ≡ sets y (base + 2 * room + e) (take (n - 0) (drop 0 numbers))
+    pub entries_put : x ≡ sets w (base + e) (take n properties)
+        → y ≡ sets x (base + room + e) (take n kinds)
+        → z ≡ sets y (base + 2 * room + e) (take n numbers)
         → z ≡ lay_entries base room e (entries_of properties kinds numbers n) w
     unfolding lay_entries
     entries_put f g h =
-        let t : n - 0 ≡ n = omega arith in
-        h ∙ rw (g, f, t, columns (λ d. d.property) properties (λ d. refl) p.3, columns (λ d. d.kind) kinds (λ d. refl) p.4, columns (λ d. d.number) numbers (λ d. refl) p.5)
+        h ∙ rw (g, f, columns (λ d. d.property) properties (λ d. refl) p.3, columns (λ d. d.kind) kinds (λ d. refl) p.4, columns (λ d. d.number) numbers (λ d. refl) p.5)
 
--- ---- rows of rules and of direct styles
+-- ---- rows
 
-module _ (w x : List ℕ) (r b s : ℕ) (origin source : ℕ) where
-  pub rule_placed : (order to end : ℕ) → b ≡ Layout.RULE-ORIGIN → s ≡ Layout.RULE-WORDS
-      → x ≡ sets w (b + s * r) (origin ∷ source ∷ order ∷ to ∷ end ∷ [])
-      → x ≡ sets w (Layout.RULE-ORIGIN + Layout.RULE-WORDS * r) (origin ∷ source ∷ order ∷ to ∷ end ∷ [])
-  rule_placed order to end e f g = g ∙ rw (e, f)
+pub row_placed : (w x row : List ℕ) (b base n k : ℕ) → b ≡ base → x ≡ sets w (b + n * k) row → x ≡ sets w (base + n * k) row
+row_placed w x row b base n k e f = f ∙ rw e
 
-  pub style_placed : (end : ℕ) → b ≡ Layout.STYLE-ORIGIN → s ≡ Layout.STYLE-WORDS
-      → x ≡ sets w (b + s * r) (origin ∷ source ∷ end ∷ [])
-      → x ≡ sets w (Layout.STYLE-ORIGIN + Layout.STYLE-WORDS * r) (origin ∷ source ∷ end ∷ [])
-  style_placed end e f g = g ∙ rw (e, f)
-
-pub step_placed : (w x row row' : List ℕ) (at s : ℕ) → row ≡ row' → at ≡ Layout.step_place s → x ≡ sets w at row → x ≡ sets w (Layout.step_place s) row'
-step_placed w x row row' at s e f g = g ∙ rw (e, f)
+pub step_placed : (w x row row' : List ℕ) (k s : ℕ) → row ≡ row' → k ≡ s → x ≡ sets w (Layout.STEP + 23 * k) row → x ≡ sets w (Layout.step_place s) row'
+step_placed w x row row' k s e f g = g ∙ rw (e, f)

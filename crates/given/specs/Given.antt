@@ -6,6 +6,7 @@ use Rattle.selector.specs.Tags.{Tags}
 use Rattle.selector.specs.Rows.{selector_of}
 use Rattle.style.specs.Entries.{Entry, entries_of}
 use Rattle.sheet.specs.Sheets.{Style, Rule}
+use Rattle.given.specs.declared.GroupLists.{GroupLists}
 
 -- A direct style: n entries
 abbrev pub style_given : ℕ → ℕ → List ℕ → List ℕ → List ℕ → ℕ → Style
@@ -23,6 +24,10 @@ pub record Group : Type 0 where
 
 abbrev pub given : List ℕ → List ℕ → List ℕ → List ℕ → List ℕ → List ℕ → Group
 given r s c p k n = record { rules = r; steps = s; combinators = c; properties = p; kinds = k; numbers = n }
+
+-- what lent lists give
+abbrev pub group_of : GroupLists → Group
+group_of g = given g.rules.now g.steps.now g.combinators.now g.entries.properties.now g.entries.kinds.now g.entries.numbers.now
 
 abbrev pub step_count : Group → ℕ → ℕ
 step_count g k = get_or g.rules (3 * k) 0

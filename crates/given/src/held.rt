@@ -5,17 +5,16 @@ ghost use Rattle.lent.specs.All.{all_below};
 ghost use Rattle.selector.specs.Rows.{tag_of, tag_number};
 ghost use Rattle.selector.specs.Checks.{row_fits};
 ghost use Rattle.style.specs.Entries.{entries_of};
-ghost use Rattle.sheet.specs.Layout.{step_place, RULE-ORIGIN, RULE-WORDS, STYLE-ORIGIN, STYLE-WORDS};
+ghost use Rattle.sheet.specs.Layout.{step_place};
 ghost use Rattle.sheet.specs.Laying.{step_words, lay_entries};
 ghost use Rattle.given.specs.Pushing.{all_entries_in};
 ghost use Rattle.given.specs.Leaves.{CountsOf, counts_list, part_of, Ids};
 
-use crate::Counts;
+use crate::{Counts, EntryLists};
 use idset::held::from_ids;
 use lent::words::{copy_into, wide, widen_into, word};
 use selector::held::{flag, ids};
 use sheet::layout;
-use sheet::shape::step_place;
 
 // The number of the tag whose flag is the word at `at`; 0 where it is not set.
 fn tag(rows: &[u32], at: usize) -> u32
@@ -69,8 +68,7 @@ pub fn put_step(sheet: &mut [u32], s: u32, rows: &[u32], at: usize, code: u32)
     requires { (at < 4294967000) × (code ≤ 1) × (row_fits 8 rows.now at ≡ true) }
     ensures { sheet.new ≡ sets sheet.old (step_place s) (step_words (part_of rows.now at code)) }
 {
-    let row = step_row(rows, at, code);
-    copy_into(sheet, step_place(s), &row);
+    put_row(sheet, layout::STEP, wide(s), &step_row(rows, at, code));
 }
 
 // The counts of a sheet.
@@ -103,57 +101,29 @@ pub fn put_counts(sheet: &mut [u32], c: Counts)
     copy_into(sheet, 0, &words);
 }
 
-// The row of rule r.
-pub fn put_rule_row(
-    sheet: &mut [u32],
-    r: usize,
-    origin: u32,
-    source: u32,
-    order: u32,
-    step_end: u32,
-    entry_end: u32,
-)
-    requires { r < 4294967296 }
-    ensures { sheet.new ≡ sets sheet.old (RULE-ORIGIN + RULE-WORDS * r) (origin ∷ source ∷ order ∷ step_end ∷ entry_end ∷ []) }
+// Row k of the rows of N words that begin at word `base`.
+pub fn put_row<const N: usize>(sheet: &mut [u32], base: u32, k: usize, row: &[u32; N])
+    requires { (k < 4294967296) × (N ≤ 23) }
+    ensures { sheet.new ≡ sets sheet.old (base + N * k) row.now }
 {
-    let row = [origin, source, order, step_end, entry_end];
-    copy_into(
-        sheet,
-        wide(layout::RULE_ORIGIN) + wide(layout::RULE_WORDS) * r,
-        &row,
-    );
+    copy_into(sheet, wide(base) + N * k, row);
 }
 
-// The row of direct style d.
-pub fn put_style_row(sheet: &mut [u32], d: usize, origin: u32, source: u32, entry_end: u32)
-    requires { d < 4294967296 }
-    ensures { sheet.new ≡ sets sheet.old (STYLE-ORIGIN + STYLE-WORDS * d) (origin ∷ source ∷ entry_end ∷ []) }
-{
-    let row = [origin, source, entry_end];
-    copy_into(
-        sheet,
-        wide(layout::STYLE_ORIGIN) + wide(layout::STYLE_WORDS) * d,
-        &row,
-    );
-}
-
-// n entries into the pool at `base`, after e.
+// The first n entries into the pool at `base`, after e.
 pub fn put_entries(
     sheet: &mut [u32],
     base: usize,
     room: usize,
     e: usize,
-    properties: &[u16],
-    kinds: &[u32],
-    numbers: &[u32],
+    entries: EntryLists,
     n: usize,
 )
-    requires { (base ≤ 100000) × (room ≤ 4096) × (e ≤ 4096) × (n ≤ length properties.now) × (n ≤ length kinds.now) × (n ≤ length numbers.now) }
-    ensures { sheet.new ≡ lay_entries base room e (entries_of properties.now kinds.now numbers.now n) sheet.old }
+    requires { (base ≤ 100000) × (room ≤ 4096) × (e ≤ 4096) × (n ≤ length entries.properties.now) × (n ≤ length entries.kinds.now) × (n ≤ length entries.numbers.now) }
+    ensures { sheet.new ≡ lay_entries base room e (entries_of entries.entry.properties.now entries.entry.kinds.now entries.entry.numbers.now n) sheet.old }
 {
-    widen_into(sheet, base + e, &properties[0..n]);
-    copy_into(sheet, base + room + e, &kinds[0..n]);
-    copy_into(sheet, base + 2 * room + e, &numbers[0..n]);
+    widen_into(sheet, base + e, &entries.properties[..n]);
+    copy_into(sheet, base + room + e, &entries.kinds[..n]);
+    copy_into(sheet, base + 2 * room + e, &entries.numbers[..n]);
 }
 
 // How many ids n steps hold, each step's sorted and made unique.

@@ -8,14 +8,12 @@ ghost use Rattle.selector.specs.Rows.{selector_of};
 ghost use Rattle.selector.specs.Checks.{row_fits};
 ghost use Rattle.sheet.specs.Layout.{step_place, RULE-ORIGIN, RULE-WORDS};
 ghost use Rattle.sheet.specs.Laying.{step_words, steps_words, rule_words, lay_rules, lay_styles};
-ghost use Rattle.given.specs.Given.{given, style_given, rules_given};
+ghost use Rattle.given.specs.Given.{given, group_of, style_given, rules_given};
 ghost use Rattle.given.specs.Pushing.{style_push_verdict, pushed_style, group_verdict, pushed_group};
 ghost use Rattle.given.specs.Leaves.{Within, code_before, SelectorsFit, EntriesFit, step_total, entry_total, id_total};
 
-use given::Counts;
-use given::held::{
-    counts, held_ids, put_counts, put_entries, put_rule_row, put_step, put_style_row,
-};
+use given::held::{counts, held_ids, put_counts, put_entries, put_row, put_step};
+use given::{Counts, EntryLists, GroupLists};
 use lent::held::rest;
 use lent::words::{wide, word};
 use sheet::layout;
@@ -23,50 +21,28 @@ use sheet::layout;
 // ---- a style
 
 // The style's entries and its row.
-fn put_style_parts(
-    sheet: &mut [u32],
-    c: Counts,
-    origin: u32,
-    properties: &[u16],
-    kinds: &[u32],
-    numbers: &[u32],
-    n: usize,
-)
-    requires { Within c × (n ≤ 32) × (n ≤ length properties.now) × (n ≤ length kinds.now) × (n ≤ length numbers.now) }
-    ensures { sheet.new ≡ lay_styles c.styles c.style_entries (style_given origin c.next properties.now kinds.now numbers.now n ∷ []) sheet.old }
+fn put_style_parts(sheet: &mut [u32], c: Counts, origin: u32, entries: EntryLists, n: usize)
+    requires { Within c × (n ≤ 32) × (n ≤ length entries.properties.now) × (n ≤ length entries.kinds.now) × (n ≤ length entries.numbers.now) }
+    ensures { sheet.new ≡ lay_styles c.styles c.style_entries (style_given origin c.next entries.entry.properties.now entries.entry.kinds.now entries.entry.numbers.now n ∷ []) sheet.old }
 {
     put_entries(
         sheet,
         layout::STYLE_ENTRY,
         layout::STYLE_ENTRY_ROOM,
         wide(c.style_entries),
-        properties,
-        kinds,
-        numbers,
+        entries,
         n,
     );
-    put_style_row(
-        sheet,
-        wide(c.styles),
-        origin,
-        c.next,
-        c.style_entries + n as u32,
-    );
+    let row = [origin, c.next, c.style_entries + n as u32];
+    put_row(sheet, layout::STYLE_ORIGIN, wide(c.styles), &row);
 }
 
-pub fn put_style(
-    sheet: &mut [u32],
-    origin: u32,
-    properties: &[u16],
-    kinds: &[u32],
-    numbers: &[u32],
-    n: usize,
-)
-    requires { style_push_verdict sheet.old origin properties.now kinds.now numbers.now n ≡ 0 }
-    ensures { sheet.new ≡ pushed_style sheet.old origin properties.now kinds.now numbers.now n }
+pub fn put_style(sheet: &mut [u32], origin: u32, entries: EntryLists, n: usize)
+    requires { style_push_verdict sheet.old origin entries.properties.now entries.kinds.now entries.numbers.now n ≡ 0 }
+    ensures { sheet.new ≡ pushed_style sheet.old origin entries.entry.properties.now entries.entry.kinds.now entries.entry.numbers.now n }
 {
     let c = counts(sheet);
-    put_style_parts(sheet, c, origin, properties, kinds, numbers, n);
+    put_style_parts(sheet, c, origin, entries, n);
     put_counts(
         sheet,
         Counts {
@@ -150,15 +126,8 @@ fn put_rule_rows(
         let i = 3 * k;
         step_end += wide(word(rules, i));
         entry_end += wide(word(rules, i + 2));
-        put_rule_row(
-            sheet,
-            r + k,
-            origin,
-            source,
-            k as u32,
-            step_end as u32,
-            entry_end as u32,
-        );
+        let row = [origin, source, k as u32, step_end as u32, entry_end as u32];
+        put_row(sheet, layout::RULE_ORIGIN, r + k, &row);
     }
 }
 
@@ -208,37 +177,31 @@ fn group_counts(c: Counts, rules: &[u32], n: usize, steps: &[u32], combinators: 
 }
 
 // All but the counts.
-fn put_parts(
-    sheet: &mut [u32],
-    c: Counts,
-    origin: u32,
-    rules: &[u32],
-    n: usize,
-    steps: &[u32],
-    combinators: &[u32],
-    properties: &[u16],
-    kinds: &[u32],
-    numbers: &[u32],
-)
-    requires within { Within c × (c.rules + n ≤ 256) × (c.steps + 8 * n ≤ 2048) × SelectorsFit (given rules.now steps.now combinators.now [] [] []) n × EntriesFit (given rules.now [] [] [] [] []) n }
-    requires n_in_bounds { (entry_total (given rules.now [] [] [] [] []) n ≤ length properties.now) × (entry_total (given rules.now [] [] [] [] []) n ≤ length kinds.now) × (entry_total (given rules.now [] [] [] [] []) n ≤ length numbers.now) }
-    ensures { sheet.new ≡ lay_rules c.rules c.steps c.entries (rules_given origin c.next (given rules.now steps.now combinators.now properties.now kinds.now numbers.now) n) sheet.old }
+fn put_parts(sheet: &mut [u32], c: Counts, origin: u32, lists: GroupLists, n: usize)
+    requires within { Within c × (c.rules + n ≤ 256) × (c.steps + 8 * n ≤ 2048) × SelectorsFit (given lists.rules.now lists.steps.now lists.combinators.now [] [] []) n × EntriesFit (given lists.rules.now [] [] [] [] []) n }
+    requires n_in_bounds { (entry_total (given lists.rules.now [] [] [] [] []) n ≤ length lists.entries.properties.now) × (entry_total (given lists.rules.now [] [] [] [] []) n ≤ length lists.entries.kinds.now) × (entry_total (given lists.rules.now [] [] [] [] []) n ≤ length lists.entries.numbers.now) }
+    ensures { sheet.new ≡ lay_rules c.rules c.steps c.entries (rules_given origin c.next (group_of lists.entry) n) sheet.old }
 {
     put_entries(
         sheet,
         layout::ENTRY,
         layout::ENTRY_ROOM,
         wide(c.entries),
-        properties,
-        kinds,
-        numbers,
-        third_sum(rules, 2, n),
+        lists.entries,
+        third_sum(lists.rules, 2, n),
     );
-    put_steps(sheet, wide(c.steps), rules, n, steps, combinators);
+    put_steps(
+        sheet,
+        wide(c.steps),
+        lists.rules,
+        n,
+        lists.steps,
+        lists.combinators,
+    );
     put_rule_rows(
         sheet,
         wide(c.rules),
-        rules,
+        lists.rules,
         n,
         origin,
         c.next,
@@ -248,32 +211,12 @@ fn put_parts(
 }
 
 // A group that the checks have passed.
-pub fn put_group(
-    sheet: &mut [u32],
-    origin: u32,
-    rules: &[u32],
-    n: usize,
-    steps: &[u32],
-    combinators: &[u32],
-    properties: &[u16],
-    kinds: &[u32],
-    numbers: &[u32],
-)
-    requires { group_verdict sheet.old origin (given rules.now steps.now combinators.now properties.now kinds.now numbers.now) n ≡ 0 }
-    ensures { sheet.new ≡ pushed_group sheet.old origin (given rules.now steps.now combinators.now properties.now kinds.now numbers.now) n }
+pub fn put_group(sheet: &mut [u32], origin: u32, lists: GroupLists, n: usize)
+    requires { group_verdict sheet.old origin (group_of lists) n ≡ 0 }
+    ensures { sheet.new ≡ pushed_group sheet.old origin (group_of lists.entry) n }
 {
     let c = counts(sheet);
-    put_parts(
-        sheet,
-        c,
-        origin,
-        rules,
-        n,
-        steps,
-        combinators,
-        properties,
-        kinds,
-        numbers,
-    );
-    put_counts(sheet, group_counts(c, rules, n, steps, combinators));
+    put_parts(sheet, c, origin, lists, n);
+    let after = group_counts(c, lists.rules, n, lists.steps, lists.combinators);
+    put_counts(sheet, after);
 }

@@ -11,7 +11,7 @@ ghost use Rattle.given.specs.Pushing.{indexes_of, shift_style, shift_rule, casca
 ghost use Rattle.given.specs.Leaves.{Within, held_row, held_style_row, sum_counts};
 
 use given::Counts;
-use given::held::{counts, put_counts, put_rule_row, put_step, put_style_row};
+use given::held::{counts, put_counts, put_row, put_step};
 use joining::cascades::{is_bare, largest_index};
 use lent::held::part;
 use lent::lists::cell;
@@ -62,15 +62,14 @@ fn put_held_rule(sheet: &mut [u32], c: Counts, other: &[u32], k: u32)
     let orders = layout::RULE_ORDERS;
     let steps = layout::RULE_STEP_ENDS;
     let entries = layout::RULE_ENTRY_ENDS;
-    put_rule_row(
-        sheet,
-        wide(c.rules + k),
+    let row = [
         cell(other, origins, k),
         c.next + cell(other, sources, k),
         cell(other, orders, k),
         c.steps + cell(other, steps, k),
         c.entries + cell(other, entries, k),
-    );
+    ];
+    put_row(sheet, layout::RULE_ORIGIN, wide(c.rules + k), &row);
 }
 
 // The rows of the other sheet's rules.
@@ -92,13 +91,12 @@ fn put_held_style(sheet: &mut [u32], c: Counts, other: &[u32], k: u32)
     let origins = layout::STYLE_ORIGINS;
     let sources = layout::STYLE_SOURCES;
     let entries = layout::STYLE_ENTRY_ENDS;
-    put_style_row(
-        sheet,
-        wide(c.styles + k),
+    let row = [
         cell(other, origins, k),
         c.next + cell(other, sources, k),
         c.style_entries + cell(other, entries, k),
-    );
+    ];
+    put_row(sheet, layout::STYLE_ORIGIN, wide(c.styles + k), &row);
 }
 
 fn put_held_styles(sheet: &mut [u32], c: Counts, other: &[u32])

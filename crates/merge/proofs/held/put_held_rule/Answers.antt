@@ -8,29 +8,29 @@ overflow_add-c c =
     let r = rule_numbers_lem _ _ c.requires.2 c.requires.1 in
     record { fits = omega (arith, w.rules, r.here) }
 
-pub overflow_add-c-2 : goal.overflow_add-c-2
-overflow_add-c-2 c =
+pub overflow_add-row : goal.overflow_add-row
+overflow_add-row c =
     let w = c.requires.0 in
     let r = rule_numbers_lem _ _ c.requires.2 c.requires.1 in
     record { fits = omega (arith, w.next, r.source, c.cell-2.ensures) }
 
-pub overflow_add-c-3 : goal.overflow_add-c-3
-overflow_add-c-3 c =
+pub overflow_add-row-2 : goal.overflow_add-row-2
+overflow_add-row-2 c =
     let w = c.requires.0 in
     let r = rule_numbers_lem _ _ c.requires.2 c.requires.1 in
     record { fits = omega (arith, w.steps, r.steps, c.cell-4.ensures) }
 
-pub overflow_add-c-4 : goal.overflow_add-c-4
-overflow_add-c-4 c =
+pub overflow_add-row-3 : goal.overflow_add-row-3
+overflow_add-row-3 c =
     let w = c.requires.0 in
     let r = rule_numbers_lem _ _ c.requires.2 c.requires.1 in
     record { fits = omega (arith, w.entries, r.entries, c.cell-5.ensures) }
 
-pub put_rule_row-requires : goal.put_rule_row-requires
-put_rule_row-requires c =
+pub put_row-requires : goal.put_row-requires
+put_row-requires c =
     let w = c.requires.0 in
     let r = rule_numbers_lem _ _ c.requires.2 c.requires.1 in
-    omega (arith, w.rules, r.here, c.wide.ensures)
+    (omega (arith, w.rules, r.here, c.wide.ensures), omega arith)
 
 pub returns : goal.returns
-returns c = search (rule_put, c.wide.ensures, c.cell.ensures, c.cell-2.ensures, c.cell-3.ensures, c.cell-4.ensures, c.cell-5.ensures, c.put_rule_row.ensures)
+returns c = search (rule_put, c.wide.ensures, c.cell.ensures, c.cell-2.ensures, c.cell-3.ensures, c.cell-4.ensures, c.cell-5.ensures, c.put_row.ensures)

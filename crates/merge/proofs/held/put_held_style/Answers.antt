@@ -8,24 +8,24 @@ overflow_add-c c =
     let r = style_numbers_lem _ _ c.requires.2 c.requires.1 in
     record { fits = omega (arith, w.styles, r.here) }
 
-pub overflow_add-c-2 : goal.overflow_add-c-2
-overflow_add-c-2 c =
+pub overflow_add-row : goal.overflow_add-row
+overflow_add-row c =
     let w = c.requires.0 in
     let r = style_numbers_lem _ _ c.requires.2 c.requires.1 in
     record { fits = omega (arith, w.next, r.source, c.cell-2.ensures) }
 
-pub overflow_add-c-3 : goal.overflow_add-c-3
-overflow_add-c-3 c =
+pub overflow_add-row-2 : goal.overflow_add-row-2
+overflow_add-row-2 c =
     let w = c.requires.0 in
     let r = style_numbers_lem _ _ c.requires.2 c.requires.1 in
     record { fits = omega (arith, w.style_entries_lem, r.entries, c.cell-3.ensures) }
 
-pub put_style_row-requires : goal.put_style_row-requires
-put_style_row-requires c =
+pub put_row-requires : goal.put_row-requires
+put_row-requires c =
     let w = c.requires.0 in
     let r = style_numbers_lem _ _ c.requires.2 c.requires.1 in
-    omega (arith, w.styles, r.here, c.wide.ensures)
+    (omega (arith, w.styles, r.here, c.wide.ensures), omega arith)
 
 pub returns : goal.returns
 returns c =
-    style_put c.args.c _ c.args.sheet.now _ _ _ _ _ _ c.wide.ensures c.cell.ensures c.cell-2.ensures c.cell-3.ensures c.put_style_row.ensures
+    style_put c.args.c _ c.args.sheet.now _ _ _ _ _ _ c.wide.ensures c.cell.ensures c.cell-2.ensures c.cell-3.ensures c.put_row.ensures
