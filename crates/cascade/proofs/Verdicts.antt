@@ -4,10 +4,9 @@ use mathlib.Core.Bool.{Bool, true, false}
 use mathlib.Core.List.{List, [], ◌∷◌}
 use Prim.Native.Nat.{ℕ, ◌<◌}
 use native.Mathlib.Omega.{arith}
-use borrow.Author.Tests.{ne_eqb}
-use Rattle.lent.specs.Refusals.{told, refusal_of, answered, Check, check, first_of}
+use Rattle.lent.specs.Refusals.{number_of, told, answered, Check, check, first_of}
 use Rattle.lent.specs.declared.Refusal.{Refusal}
-use Rattle.lent.proofs.Refusals.{first_stop, first_go, first_clear, told_first}
+use Rattle.lent.proofs.Refusals.{first_stop, first_go, first_clear, refusal_number, refused_first}
 use Rattle.sheet.specs.Shape.{sheet_shape}
 use Rattle.table.specs.Tables.{table, states_in}
 use Rattle.table.specs.Shape.{table_shape}
@@ -22,19 +21,18 @@ module _ (w h s c m tr : List ℕ) (old oldStamp new newStamp : ℕ) where
   abbrev of_new : List Check
   of_new = check 4 (not_a_state h new newStamp) ∷ []
 
-  module _ (v : ℕ) (e : v ≡ state_verdict w (table h s c m tr) old oldStamp) where
-    pub pair_old : (v ≡ 0 → ⊥) → v ≡ pair_verdict w (table h s c m tr) old oldStamp new newStamp
-    unfolding state_verdict pair_verdict
-    pair_old x = first_stop of_old of_new v e x
+  pub pair_old : (r : Refusal) → number_of r ≡ state_verdict w (table h s c m tr) old oldStamp → number_of r ≡ pair_verdict w (table h s c m tr) old oldStamp new newStamp
+  unfolding state_verdict pair_verdict
+  pair_old r e = first_stop of_old of_new (number_of r) e (refusal_number r)
 
-    module _ (z : v ≡ 0) (a : Bool) (f : a ≡ not_a_state h new newStamp) where
-      pub pair_new : a ≡ true → 4 ≡ pair_verdict w (table h s c m tr) old oldStamp new newStamp
-      unfolding state_verdict pair_verdict first_of
-      pair_new g = first_go of_old of_new v 4 e z refl (rw (← f, g))
+  module _ (e : 0 ≡ state_verdict w (table h s c m tr) old oldStamp) (a : Bool) (f : a ≡ not_a_state h new newStamp) where
+    pub pair_new : a ≡ true → 4 ≡ pair_verdict w (table h s c m tr) old oldStamp new newStamp
+    unfolding state_verdict pair_verdict first_of
+    pair_new g = first_go of_old of_new 0 4 e refl refl (rw (← f, g))
 
-      pub pair_both : a ≡ false → 0 ≡ pair_verdict w (table h s c m tr) old oldStamp new newStamp
-      unfolding state_verdict pair_verdict first_of
-      pair_both g = first_go of_old of_new v 0 e z refl (rw (← f, g))
+    pub pair_both : a ≡ false → 0 ≡ pair_verdict w (table h s c m tr) old oldStamp new newStamp
+    unfolding state_verdict pair_verdict first_of
+    pair_both g = first_go of_old of_new 0 0 e refl refl (rw (← f, g))
 
 pub ruleset pairs = (pair_old, pair_new, pair_both)
 
@@ -48,9 +46,12 @@ module _ (w h s c m tr : List ℕ) (old oldStamp new newStamp v : ℕ) (e : v �
       let (d, _) = first_clear 4 (not_a_state h new newStamp) [] (omega arith) g in
       (shapes w t a, (one_of h old oldStamp b, one_of h new newStamp d))
 
-  pub pair_refused : (v ≡ 0 → ⊥) → (x : Refusal) → x ≡ refusal_of v → (l : List ℕ) → told x ≡ answered (pair_verdict w (table h s c m tr) old oldStamp new newStamp) l
-  unfolding pair_verdict
-  pair_refused n x f l = rw (f, ← e, ne_eqb v 0 n) (told_first _ v refl e n)
+-- ---- what a call on the two tells
 
-  pub pair_told : v ≡ 0 → (x a : ℕ) → x ≡ a → 0 ∷ x ∷ [] ≡ answered (pair_verdict w (table h s c m tr) old oldStamp new newStamp) (0 ∷ a ∷ [])
-  pair_told z x a f = rw (← e, z, f)
+module _ (w h s c m tr : List ℕ) (old oldStamp new newStamp : ℕ) where
+  pub pair_refused : (r : Refusal) → number_of r ≡ pair_verdict w (table h s c m tr) old oldStamp new newStamp → (l : List ℕ) → told r ≡ answered (pair_verdict w (table h s c m tr) old oldStamp new newStamp) l
+  unfolding pair_verdict
+  pair_refused r e l = refused_first _ r l refl e
+
+  pub pair_told : 0 ≡ pair_verdict w (table h s c m tr) old oldStamp new newStamp → (x a : ℕ) → x ≡ a → 0 ∷ x ∷ [] ≡ answered (pair_verdict w (table h s c m tr) old oldStamp new newStamp) (0 ∷ a ∷ [])
+  pair_told e x a f = rw (← e, f)

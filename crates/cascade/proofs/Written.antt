@@ -1,25 +1,26 @@
 -- Lists written into a lent buffer, by each way through the code. Assumes nothing.
 use mathlib.Core.Path.{◌≡◌, refl, sym, ap, ◌∙◌}
-use mathlib.Core.Bool.{Bool, true, false}
+use mathlib.Core.Bool.{Bool, true, false, cond}
 use mathlib.Core.List.{List, [], ◌∷◌, ◌++◌, append-nil}
 use Prim.Native.Nat.{ℕ, ◌≤◌, ◌<◌}
 use lib.ListN.{length, take, replicate}
 use lib.Seq.{sets}
+use lib.Dec.{eqb}
 use borrow.Author.Tests.{ne_eqb}
+use Rattle.std.specs.Prelude.{Result, Ok, Err}
 use Rattle.theory.specs.Lists.{sort}
 use Rattle.theory.proofs.Lists.{sort_ascending}
 use Rattle.idset.specs.Buffers.{Holds}
-use Rattle.lent.specs.Refusals.{refusal_of, Check, first_of}
+use Rattle.lent.specs.Refusals.{number_of, told, answered, Check, first_of}
 use Rattle.lent.specs.declared.Refusal.{Refusal}
 use Rattle.idset.proofs.Buffers.{held_take}
-use Rattle.lent.proofs.Refusals.{first_stop, first_go, told_first}
+use Rattle.lent.proofs.Refusals.{first_stop, first_go, refusal_number, refused_first}
 use Rattle.sheet.specs.Shape.{sheet_shape}
 use Rattle.table.specs.Tables.{table}
 use Rattle.building.proofs.Builds.{roots_few}
 use Rattle.channels.specs.Channels.{channels_of}
 use Rattle.changeset.specs.Marks.{ids_in}
 use Rattle.changeset.specs.Sets.{too_short, Lists}
-use Rattle.changeset.specs.declared.Changing.{Changing}
 use Rattle.changeset.proofs.Marks.{ids_none, sort_ascended}
 use Rattle.changeset.proofs.Calls.{list_short, list_fits_lem}
 use Rattle.changes.specs.Changes.{resource_dependent}
@@ -32,7 +33,7 @@ held_part h = sym (roots_few h)
 
 -- ---- changed properties
 
-module _ (w h s c m tr : List ℕ) (old oldStamp new newStamp v : ℕ) (e : v ≡ pair_verdict w (table h s c m tr) old oldStamp new newStamp) (out : List ℕ) where
+module _ (w h s c m tr : List ℕ) (old oldStamp new newStamp : ℕ) (out : List ℕ) where
   abbrev of_pair : List Check
   of_pair = pair_checks w (table h s c m tr) old oldStamp new newStamp
 
@@ -42,22 +43,25 @@ module _ (w h s c m tr : List ℕ) (old oldStamp new newStamp v : ℕ) (e : v �
   abbrev verdict : ℕ
   verdict = changed_verdict w (table h s c m tr) old oldStamp new newStamp out
 
-  pub changed_refused : (v ≡ 0 → ⊥) → (x : Refusal) → x ≡ refusal_of v → Lists verdict list out (Changing.Refused x) out
-  unfolding pair_verdict changed_verdict
-  changed_refused n x f =
-      let q : v ≡ verdict = first_stop of_pair (too_short list out ∷ []) v e n in
-      record { answer = rw (← q, ne_eqb v 0 n, f) (told_first of_pair v refl e n); memory = rw (← q, ne_eqb v 0 n) }
+  module _ (r : Refusal) (e : number_of r ≡ pair_verdict w (table h s c m tr) old oldStamp new newStamp) where
+    pub changed_refused : (l : List ℕ) → told r ≡ answered verdict l
+    unfolding pair_verdict changed_verdict
+    changed_refused l = rw (sym (first_stop of_pair (too_short list out ∷ []) (number_of r) e (refusal_number r)) ∙ e) (refused_first of_pair r l refl e)
 
-  module _ (z : v ≡ 0) where
+    pub changed_kept : out ≡ cond (eqb verdict 0) (sets out 0 list) out
+    unfolding pair_verdict changed_verdict
+    changed_kept = rw (← first_stop of_pair (too_short list out ∷ []) (number_of r) e (refusal_number r), ne_eqb (number_of r) 0 (refusal_number r))
+
+  module _ (e : 0 ≡ pair_verdict w (table h s c m tr) old oldStamp new newStamp) where
     last : first_of (too_short list out ∷ []) ≡ verdict
     unfolding pair_verdict changed_verdict
-    last = first_go of_pair (too_short list out ∷ []) v _ e z refl refl
+    last = first_go of_pair (too_short list out ∷ []) 0 _ e refl refl refl
 
     module _ (d d' : List ℕ) (n : ℕ) (held : Holds list d n d') where
-      pub changed_short : length out < n → Lists verdict list out (Changing.Refused Refusal.BufferTooShort) out
+      pub changed_short : length out < n → Lists verdict list out (Err Refusal.BufferTooShort) out
       changed_short l = rw (← last) (list_short list out held.count l)
 
-      pub changed_listed : n ≤ length out → (after : List ℕ) → after ≡ sets out 0 (take n d') → Lists verdict list out (Changing.Listed n) after
+      pub changed_listed : n ≤ length out → (after : List ℕ) → after ≡ sets out 0 (take n d') → Lists verdict list out (Ok n) after
       changed_listed l after f = rw (← last) (list_fits_lem list out held.count l (f ∙ ap (sets out 0) (held_take held)))
 
 -- ---- their channels
@@ -68,11 +72,11 @@ channels_held masks l d e n x h f = f ∙ ap (channels_of masks) (held_take h)
 -- ---- properties that depend on resources
 
 module _ (w out : List ℕ) (b : Bool) (e : b ≡ sheet_shape w) where
-  pub resources_broken : b ≡ false → Lists (resource_verdict w out) (resource_dependent w) out (Changing.Refused Refusal.BrokenShape) out
+  pub resources_broken : b ≡ false → Lists (resource_verdict w out) (resource_dependent w) out (Err Refusal.BrokenShape) out
   unfolding resource_verdict first_of
   resources_broken f = record { answer = rw (← e, f); memory = rw (← e, f) }
 
-  pub resources_listed : b ≡ true → (l after : List ℕ) (r : Changing) → l ≡ sort (resource_dependent w ++ ids_in (replicate 2048 0))
+  pub resources_listed : b ≡ true → (l after : List ℕ) (r : Result ℕ Refusal) → l ≡ sort (resource_dependent w ++ ids_in (replicate 2048 0))
       → Lists (first_of (too_short l out ∷ [])) l out r after → Lists (resource_verdict w out) (resource_dependent w) out r after
   unfolding resource_verdict resource_dependent first_of
   resources_listed f l after r g u =
