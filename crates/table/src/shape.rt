@@ -136,14 +136,7 @@ fn state_fine(states: &[u32], cursors: &[u32], matched: &[u32], k: u32) -> bool
 fn each_state_fine(states: &[u32], cursors: &[u32], matched: &[u32], n: u32) -> bool
     ensures { result ≡ all_below n (state_fine states.now cursors.now matched.now) }
 {
-    let mut k = 0;
-    while k < n {
-        if !state_fine(states, cursors, matched, k) {
-            return false;
-        }
-        k += 1;
-    }
-    true
+    (0..n).all(|k| state_fine(states, cursors, matched, k))
 }
 
 fn lists_meet(head: &[u32], states: &[u32]) -> bool
@@ -185,14 +178,7 @@ fn cursors_exist(sheet: &[u32], cursors: &[u32], n: u32) -> bool
     requires { sheet_shape sheet.now ≡ true }
     ensures { result ≡ all_below n (λ (i : ℕ). cursor_exists sheet.now (get_or cursors.now i 0)) }
 {
-    let mut i = 0;
-    while i < n {
-        if !cursor_exists(sheet, word(cursors, wide(i))) {
-            return false;
-        }
-        i += 1;
-    }
-    true
+    (0..n).all(|i| cursor_exists(sheet, word(cursors, wide(i))))
 }
 
 fn rule_exists(sheet: &[u32], rule: u32) -> bool
@@ -204,14 +190,7 @@ fn rule_exists(sheet: &[u32], rule: u32) -> bool
 fn rules_exist(sheet: &[u32], matched: &[u32], n: u32) -> bool
     ensures { result ≡ all_below n (λ (i : ℕ). rule_exists sheet.now (get_or matched.now i 0)) }
 {
-    let mut i = 0;
-    while i < n {
-        if !rule_exists(sheet, word(matched, wide(i))) {
-            return false;
-        }
-        i += 1;
-    }
-    true
+    (0..n).all(|i| rule_exists(sheet, word(matched, wide(i))))
 }
 
 fn numbers_exist(sheet: &[u32], head: &[u32], cursors: &[u32], matched: &[u32]) -> bool
@@ -329,15 +308,7 @@ fn transition_fine(head: &[u32], transitions: &[u32], k: u32) -> bool
 fn transitions_fine(head: &[u32], transitions: &[u32]) -> bool
     ensures { result ≡ all_below (transitions_in head.now) (transition_fine head.now transitions.now) }
 {
-    let n = word(head, layout::TRANSITIONS);
-    let mut k = 0;
-    while k < n {
-        if !transition_fine(head, transitions, k) {
-            return false;
-        }
-        k += 1;
-    }
-    true
+    (0..word(head, layout::TRANSITIONS)).all(|k| transition_fine(head, transitions, k))
 }
 
 // ---- the root
