@@ -12,17 +12,19 @@ use borrow.Author.Tests.{ltb-false, lt-ltb, le-ltb, not-true}
 use Rattle.theory.specs.Lists.{ascends, sort, spread}
 use Rattle.theory.proofs.Lists.{and_left, and_right, and_both, sort_ascending, sort_length, ascends_is}
 use Rattle.theory.proofs.Spreads.{length_spread, get_or_spread, spread_same, spread_list}
+use Rattle.std.specs.Prelude.{Option, Result}
+use Rattle.lent.specs.declared.Refusal.{Refusal}
 use Rattle.lent.specs.Refusals.{first_of}
 use Rattle.selector.specs.Rows.{row_at}
 use Rattle.selector.specs.Checks.{row_fits, tags_ascend}
 use Rattle.typed.specs.declared.ClassId.{ClassId}
 use Rattle.typed.specs.declared.PseudoClassId.{PseudoClassId}
-use Rattle.typed.specs.declared.TypeChoice.{TypeChoice}
-use Rattle.typed.specs.declared.PartChoice.{PartChoice}
+use Rattle.typed.specs.declared.TypeTag.{TypeTag}
+use Rattle.typed.specs.declared.PartTag.{PartTag}
 use Rattle.typed.specs.declared.SelectorInputs.{SelectorInputs}
 use Rattle.typed.specs.Typed.{class_number, pseudo_number, inputs_tags, inputs_row, inputs_from, row_type, row_part, classes_from, pseudos_from}
 use Rattle.owned.specs.declared.SelectorInputsOwned.{SelectorInputsOwned}
-use Rattle.owned.specs.Owned.{owned_verdict, owned_of, owned_inputs, Owned}
+use Rattle.owned.specs.Owned.{owned_verdict, owned_of, owned_inputs, inputs_held, Owned}
 use Rattle.covered.specs.Rooms.{Proper}
 use Rattle.covered.proofs.Accepted.{row_tags}
 use Rattle.records.specs.Rows.{empty_row, with_item, item_over}
@@ -53,12 +55,12 @@ module _ (row : List ℕ) (which id : ℕ) where
 
 -- ---- the row of the subject
 
-pub owned_subject : (items : List ℕ) (x : SelectorInputs) → x ≡ inputs_from items → (r : SelectorInputsOwned)
+pub owned_subject : (items : List ℕ) (x : SelectorInputs) → x ≡ inputs_from items → (r : Result SelectorInputsOwned Refusal)
     → Owned x.type_tag x.part_tag x.classes x.class_count x.pseudos x.pseudo_count r
-    → (row : List ℕ) → row ≡ inputs_row r.inputs → row ≡ inputs_row (subject_of items)
+    → (row : List ℕ) → row ≡ inputs_row (inputs_held r) → row ≡ inputs_row (subject_of items)
 unfolding subject_of
 owned_subject items x e r o row q =
-    let f : r.inputs ≡ subject_of items = rw e at o.inputs in
+    let f : inputs_held r ≡ subject_of items = rw e at o.inputs in
     q ∙ ap (λ (y : SelectorInputs). inputs_row y) f
 
 -- a list spelled out as ids, and read back
@@ -68,7 +70,7 @@ spelled make number none back l h =
     spread_same _ (λ k. get_or l k 0) 0 (length l) (λ i _ g. ap number (get_or_spread (λ j. make (get_or l j 0)) 0 16 i none (omega arith)) ∙ back (get_or l (0 + i) 0) ∙ rw (zero-add i))
     ∙ spread_list l 0
 
-owned_proper : (t : TypeChoice) (p : PartChoice) (classes pseudos : List ℕ) → length classes ≤ 16 → length pseudos ≤ 16 → ascends classes ≡ true → ascends pseudos ≡ true
+owned_proper : (t : Option TypeTag) (p : Option PartTag) (classes pseudos : List ℕ) → length classes ≤ 16 → length pseudos ≤ 16 → ascends classes ≡ true → ascends pseudos ≡ true
     → Proper (owned_of t p classes pseudos)
 unfolding inputs_tags
 owned_proper t p classes pseudos h g e f =

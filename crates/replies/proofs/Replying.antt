@@ -1,7 +1,7 @@
 -- The steps that answer a record, by each way through the code, and that they make the record's answer. Assumes nothing.
 use mathlib.Core.Path.{◌≡◌, refl, sym, ap, ◌∙◌}
-use mathlib.Core.Bool.{Bool, true, false, not, cond}
-use mathlib.Core.Option.{Option}
+use mathlib.Core.Bool.{Bool, true, false, not, cond, and-false}
+use mathlib.Core.Option.{Option as Maybe}
 use mathlib.Core.List.{List, [], ◌∷◌}
 use Prim.Native.Nat.{ℕ, ◌+◌, ◌≤◌, ◌<◌}
 use native.Mathlib.Omega.{arith}
@@ -12,16 +12,17 @@ use borrow.Author.Tests.{lt-ltb, le-ltb, eq-eqb, ne_eqb, eqb-true, ltb-true, not
 use Rattle.theory.proofs.Lists.{and_left, and_right}
 use Rattle.lent.specs.Pool.{list_at}
 use Rattle.idset.specs.Buffers.{Holds}
-use Rattle.lent.specs.Refusals.{refusal_of, Check, check, first_of}
-use Rattle.lent.proofs.Refusals.{named, told_first}
+use Rattle.std.specs.Prelude.{Option, Some, None, Result, Ok, Err, ⊤}
+use Rattle.lent.specs.declared.Refusal.{Refusal}
+use Rattle.lent.specs.declared.Refusal.TheVariants.{NoRoom}
+use Rattle.lent.specs.Refusals.{number_of, verdict_of, refusal_of, Check, check, first_of}
+use Rattle.lent.proofs.Refusals.{refusal_number, named, told_first}
 use Rattle.idset.proofs.Buffers.{held_take}
 use Rattle.selector.specs.Rows.{row_at}
 use Rattle.selector.specs.Checks.{row_fits, tags_ascend}
 use Rattle.typed.specs.Typed.{inputs_row}
 use Rattle.sheet.specs.Shape.{sheet_shape}
 use Rattle.sheet.proofs.Shaped.{shaped}
-use Rattle.settle.specs.declared.Settled.{Settled}
-use Rattle.settle.specs.declared.Settled.TheVariants.{At, NoRoom}
 use Rattle.table.specs.Tables.{Table, table, stamp_in, ranking_in, states_in, matched_at}
 use Rattle.table.specs.Shape.{table_shape}
 use Rattle.table.specs.Entering.{lacks_room, child_of, entered}
@@ -43,10 +44,9 @@ use Rattle.covered.proofs.Reached.{covered_sheet, covered_shaped, covered_sound,
 use Rattle.records.specs.declared.Record.{Record}
 use Rattle.records.specs.Records.{Narrow}
 use Rattle.wording.specs.Lines.{refused_line, state_line, changed_line, winner_line, Said}
-use Rattle.replies.specs.declared.Entered.{Entered}
 use Rattle.replies.specs.Walking.{Walking, walking, subject_of, printed, item_fault, with_fit, entering_verdict, enter_after, changed_room, changing_verdict, winning_verdict, walking_verdict, accepted_line, walking_line, items_after, table_after, ends}
 use Rattle.replies.specs.Memory.{Ready, Replies}
-use Rattle.replies.specs.Steps.{lost_in, lost_either, enters_by, entered_of, ItemsTaken, item, entering, changing, winning, misplaced, EntersIf, Tellable, told_line}
+use Rattle.replies.specs.Steps.{lost_in, lost_either, enters_by, child_in, ItemsTaken, item, entering, changing, winning, misplaced, EntersIf, Tellable, told_line}
 use Rattle.replies.proofs.Items.{emptied, subject_proper, proper_fits, proper_rises}
 
 -- a list of a pool is no longer than the pool
@@ -112,11 +112,21 @@ module _ (head : List ℕ) (k n : ℕ) (e : n ≡ states_in head) where
   pub lost_is : n ≤ k → ◌≡◌ {A = ℕ} 4 (lost_in head k)
   lost_is h = rw (le-ltb k (states_in head) (omega (arith, e)))
 
-  pub either_second : k < n → (new x : ℕ) → x ≡ lost_in head new → x ≡ lost_either head k new
-  either_second h new x f = rw (lt-ltb k (states_in head) (omega (arith, e))) f
+-- two of them, one after the other
+module _ (head : List ℕ) (old new : ℕ) where
+  pub either_first : (e : Refusal) → number_of e ≡ lost_in head old → {A : Type 0} (r : Result A Refusal) → r ≡ Err e → verdict_of r ≡ lost_either head old new
+  either_first e q r i = rw i (by (ltb old (states_in head)) q)
+    where
+      by : (known : Bool) → number_of e ≡ cond known 0 4 → number_of e ≡ cond known (lost_in head new) 4
+      by true z = absurd (refusal_number e z)
+      by false z = z
 
-  pub either_first : n ≤ k → (new : ℕ) → ◌≡◌ {A = ℕ} 4 (lost_either head k new)
-  either_first h new = rw (le-ltb k (states_in head) (omega (arith, e)))
+  pub either_second : (v : ℕ) → 0 ≡ lost_in head old → v ≡ lost_in head new → v ≡ lost_either head old new
+  either_second v q f = by (ltb old (states_in head)) q
+    where
+      by : (known : Bool) → ◌≡◌ {A = ℕ} 0 (cond known 0 4) → v ≡ cond known (lost_in head new) 4
+      by true z = f
+      by false z = absurd (omega (arith, z))
 
 -- the items
 
@@ -139,50 +149,53 @@ module _ (head items : List ℕ) (r : Record) where
 
 -- the entering
 
-module _ (kind fault : ℕ) where
-  pub enters_by_lem : kind ≡ 10 → eqb fault 0 ≡ enters_by kind fault
-  enters_by_lem k = rw k
+enters_not : (kind fault : ℕ) → (kind ≡ 10 → ⊥) → enters_by kind fault ≡ false
+enters_not kind fault n = rw (ne_eqb kind 10 n)
 
-  pub enters_not : (kind ≡ 10 → ⊥) → false ≡ enters_by kind fault
-  enters_not n = rw (ne_eqb kind 10 n)
+refused_not : (kind fault : ℕ) → (fault ≡ 0 → ⊥) → enters_by kind fault ≡ false
+refused_not kind fault n = rw (ne_eqb fault 0 n) (and-false (eqb kind 10))
 
-pub entered_at : (x : Settled) (child : ℕ) → x ≡ At child → record { fault = 0; child = child } ≡ entered_of x
-entered_at x child e = rw e
+-- what `entering` answers, by whether there is room
+lacks_by : (lacks : Bool) (other : ℕ) → None ≡ cond lacks None (Some other) → lacks ≡ true
+lacks_by true other e = refl
+lacks_by false other e = cc
 
-pub entered_not : (x : Settled) → x ≡ NoRoom → record { fault = 5; child = 0 } ≡ entered_of x
-entered_not x e = rw e
+room_by : (lacks : Bool) (other child : ℕ) → Some child ≡ cond lacks None (Some other) → (lacks ≡ false) × (other ≡ child)
+room_by true other child e = cc
+room_by false other child e = (refl, cc)
 
-entered_fault : (lacks : Bool) (child : ℕ) → (entered_of (cond lacks NoRoom (At child))).fault ≡ cond lacks 5 0
-entered_fault true child = refl
-entered_fault false child = refl
+module _ (w : List ℕ) (t : Table) (kind parent : ℕ) (row : List ℕ) {checked : Result ⊤ Refusal} where
+  -- refused before
+  pub steps_refused : {e : Refusal} → checked ≡ Err e → {r : Result (Option ℕ) Refusal} → r ≡ Err e → EntersIf w t kind parent (verdict_of checked) row r t
+  steps_refused {e} c i =
+      let f = refused_not kind (number_of e) (refusal_number e) in
+      rw (c, i) (record { refusal = rw f; child = rw f; memory = rw f })
 
-entered_child : (lacks : Bool) (child : ℕ) → (entered_of (cond lacks NoRoom (At child))).child ≡ cond lacks 0 child
-entered_child true child = refl
-entered_child false child = refl
+  module _ {u : ⊤} (c : checked ≡ Ok u) where
+    -- no enter
+    pub steps_none : (kind ≡ 10 → ⊥) → EntersIf w t kind parent (verdict_of checked) row (Ok None) t
+    steps_none n = let f = enters_not kind 0 n in rw c (record { refusal = rw f; child = rw f; memory = rw f })
 
-module _ (w : List ℕ) (t : Table) (kind parent fault : ℕ) (row : List ℕ) (b : Bool) (e : b ≡ enters_by kind fault) where
-  pub steps_none : not b ≡ true → EntersIf w t kind parent fault row (record { fault = fault; child = 0 }) t
-  steps_none n =
-      let f = not-true b n in
-      record { refusal = rw (← e, f); child = rw (← e, f); memory = rw (← e, f) }
+    module _ (k : kind ≡ 10) {x : Option ℕ} {t' : Table} (v : Enters w t parent row x t') where
+      enter_asked : enters_by kind 0 ≡ true
+      enter_asked = rw k
 
-  module _ (n : not b ≡ false) where
-    by_true : enters_by kind fault ≡ true
-    by_true = sym e ∙ not-false b n
+      pub steps_lacks : x ≡ None → EntersIf w t kind parent (verdict_of checked) row (Err NoRoom) t'
+      steps_lacks n =
+          let f = lacks_by (lacks_room w t parent row) _ (sym n ∙ v.answer) in
+          rw c (record { refusal = rw (enter_asked, f); child = rw (enter_asked, f); memory = v.memory ∙ rw enter_asked })
 
-    pub steps_enter : (x : Settled) (t' : Table) → Enters w t parent row x t' → (a : Entered) → a ≡ entered_of x → EntersIf w t kind parent fault row a t'
-    steps_enter x t' v a q = record {
-      refusal = rw (by_true, q, v.answer) (entered_fault (lacks_room w t parent row) (child_of w t parent row));
-      child = rw (by_true, q, v.answer) (entered_child (lacks_room w t parent row) (child_of w t parent row));
-      memory = rw by_true v.memory;
-    }
+      pub steps_enter : {child : ℕ} → x ≡ Some child → EntersIf w t kind parent (verdict_of checked) row (Ok (Some child)) t'
+      steps_enter {child} s =
+          let f = room_by (lacks_room w t parent row) _ child (sym s ∙ v.answer) in
+          rw c (record { refusal = rw (enter_asked, f.0); child = rw (enter_asked, f.0, f.1); memory = v.memory ∙ rw enter_asked })
 
-pub enter_fine : (w : List ℕ) (t : Table) (parent : ℕ) (row : List ℕ) (asks b : Bool) → b ≡ asks → not b ≡ false → Covered w t
-    → (asks ≡ true → (parent < states_in t.head) × (row_fits 16 row 0 ≡ true) × (tags_ascend (row_at 16 row 0) ≡ true))
+pub enter_fine : (w : List ℕ) (t : Table) (parent : ℕ) (row : List ℕ) {kind : ℕ} {checked : Result ⊤ Refusal} {u : ⊤} → checked ≡ Ok u → kind ≡ 10 → Covered w t
+    → (enters_by kind (verdict_of checked) ≡ true → (parent < states_in t.head) × (row_fits 16 row 0 ≡ true) × (tags_ascend (row_at 16 row 0) ≡ true))
     → ((sheet_shape w ≡ true) × (table_shape w t ≡ true) × (parent < states_in t.head)) × ((row_fits 16 row 0 ≡ true) × (tags_ascend (row_at 16 row 0) ≡ true))
-enter_fine w t parent row asks b e n g y =
+enter_fine w t parent row c e g y =
     let (k, s) = in_shape g in
-    let (p, o, l) = y (sym e ∙ not-false b n) in
+    let (p, o, l) = y (rw (c, e)) in
     ((k, s, p), (o, l))
 
 -- the line
@@ -199,33 +212,35 @@ module _ {w : List ℕ} {t : Table} {r : Record} {fault : ℕ} (g : Tellable w t
     pub told_winning : fault ≡ 0 → r.kind ≡ 12 → Covered w t × (first < states_in t.head) × (second < 65536)
     told_winning z k = rw (p, q) (g.winning z k)
 
-module _ (w : List ℕ) (t : Table) (r : Record) (fault child : ℕ) (out : List ℕ) (at offset : ℕ) where
-  abbrev Tells : ℕ → List ℕ → Type 0
-  Tells x out' = Said (printed fault offset (told_line w t r child)) out at x out'
+module _ (w : List ℕ) (t : Table) (r : Record) (out : List ℕ) (at offset : ℕ) where
+  abbrev Tells : Result (Option ℕ) Refusal → ℕ → List ℕ → Type 0
+  Tells e x out' = Said (printed (verdict_of e) offset (told_line w t r (child_in e))) out at x out'
 
-  pub tells_refused : (fault ≡ 0 → ⊥) → (x : ℕ) (out' : List ℕ) → Said (refused_line fault offset) out at x out' → Tells x out'
-  tells_refused n x out' u = rw (ne_eqb fault 0 n) u
+  pub tells_refused : {e : Result (Option ℕ) Refusal} {f : Refusal} → e ≡ Err f → {n : ℕ} → n ≡ number_of f → {x : ℕ} {out' : List ℕ}
+      → Said (refused_line n offset) out at x out' → Tells e x out'
+  tells_refused {f = f} i q u = rw (i, ne_eqb (number_of f) 0 (refusal_number f), ← q) u
 
-  module _ (z : fault ≡ 0) where
-    pub tells_entered : r.kind ≡ 10 → (l : List ℕ) → l ≡ matched_at t.states t.matched child → (x : ℕ) (out' : List ℕ)
-        → Said (state_line child l) out at x out' → Tells x out'
+  module _ {e : Result (Option ℕ) Refusal} {o : Option ℕ} (i : e ≡ Ok o) where
+    pub tells_entered : {child : ℕ} → o ≡ Some child → {l : List ℕ} → l ≡ matched_at t.states t.matched child → {x : ℕ} {out' : List ℕ}
+        → Said (state_line child l) out at x out' → Tells e x out'
     unfolding told_line
-    tells_entered k l q x out' u = rw (z, k, ← q) u
+    tells_entered c q u = rw (i, c, ← q) u
 
-    pub tells_changed : r.kind ≡ 11 → (x : ℕ) (out' : List ℕ) → Said (changed_line (changed_in w t r.first r.second)) out at x out' → Tells x out'
-    unfolding told_line
-    tells_changed k x out' u = rw (z, k) u
+    module _ (n : o ≡ None) where
+      pub tells_changed : r.kind ≡ 11 → {x : ℕ} {out' : List ℕ} → Said (changed_line (changed_in w t r.first r.second)) out at x out' → Tells e x out'
+      unfolding told_line
+      tells_changed k u = rw (i, n, k) u
 
-    pub tells_winner : r.kind ≡ 12 → (x : ℕ) (out' : List ℕ) → Said (winner_line w r.second (winner_in w t r.first r.second)) out at x out' → Tells x out'
-    unfolding told_line
-    tells_winner k x out' u = rw (z, k) u
+      pub tells_winner : r.kind ≡ 12 → {x : ℕ} {out' : List ℕ} → Said (winner_line w r.second (winner_in w t r.first r.second)) out at x out' → Tells e x out'
+      unfolding told_line
+      tells_winner k u = rw (i, n, k) u
 
-    pub tells_nothing : (r.kind ≡ 10 → ⊥) → (r.kind ≡ 11 → ⊥) → (r.kind ≡ 12 → ⊥) → Tells at out
-    unfolding told_line
-    tells_nothing n10 n11 n12 = rw (z, ne_eqb r.kind 10 n10, ne_eqb r.kind 11 n11, ne_eqb r.kind 12 n12) (record { next = omega arith; whole = refl })
+      pub tells_nothing : (r.kind ≡ 11 → ⊥) → (r.kind ≡ 12 → ⊥) → Tells e at out
+      unfolding told_line
+      tells_nothing n11 n12 = rw (i, n, ne_eqb r.kind 11 n11, ne_eqb r.kind 12 n12) (record { next = omega arith; whole = refl })
 
-pub winner_said : (w h s c m tr : List ℕ) (k property : ℕ) (p : ℕ) → p ≡ property → (b : Best) → Stands w (ranking_in h) p (winner_in w (table h s c m tr) k p) b
-    → (out : List ℕ) (at x : ℕ) (out' : List ℕ) → ((w : List ℕ) (ranking p : ℕ) (o : Option Place) → Stands w ranking p o b → Said (winner_line w property o) out at x out')
+pub winner_said : (w h s c m tr : List ℕ) (k property : ℕ) (p : ℕ) → p ≡ property → (b : Option Best) → Stands w (ranking_in h) p (winner_in w (table h s c m tr) k p) b
+    → (out : List ℕ) (at x : ℕ) (out' : List ℕ) → ((w : List ℕ) (ranking p : ℕ) (o : Maybe Place) → Stands w ranking p o b → Said (winner_line w property o) out at x out')
     → Said (winner_line w property (winner_in w (table h s c m tr) k property)) out at x out'
 winner_said w h s c m tr k property p q b u out at x out' f = f w (ranking_in h) property (winner_in w (table h s c m tr) k property) (rw q at u)
 
@@ -350,11 +365,14 @@ module _ (w h s c m tr items : List ℕ) (g : Ready w (table h s c m tr) items) 
         let z = eqb-true fault 0 (and_right (eqb r.kind 10) _ b) in
         (ltb-true r.first (states_in h) (lost_none _ (sym (of_entering u k) ∙ z)), rw (q k) (proper_fits proper), rw (q k) (proper_rises proper))
 
-    module _ (e : Entered) (t' : Table) (v : EntersIf w held r.kind r.first fault row e t') where
-      not_entered_lem : (r.kind ≡ 10 → ⊥) → (e.fault ≡ fault) × (t' ≡ held)
+    module _ (e : Result (Option ℕ) Refusal) (t' : Table) (v : EntersIf w held r.kind r.first fault row e t') where
+      not_entered_lem : (r.kind ≡ 10 → ⊥) → (verdict_of e ≡ fault) × (t' ≡ held)
       not_entered_lem n = (rw (ne_eqb r.kind 10 n) at v.refusal, rw (ne_eqb r.kind 10 n) at v.memory)
 
-      enter_fault : r.kind ≡ 10 → e.fault ≡ cond (ltb r.first (states_in h)) (cond (lacks_room w held r.first whole) 5 0) 4
+      childless : (r.kind ≡ 10 → ⊥) → child_in e ≡ None
+      childless n = rw (ne_eqb r.kind 10 n) at v.child
+
+      enter_fault : r.kind ≡ 10 → verdict_of e ≡ cond (ltb r.first (states_in h)) (cond (lacks_room w held r.first whole) 5 0) 4
       enter_fault k =
           let known = ltb r.first (states_in h) in
           let lacks = lacks_room w held r.first whole in
@@ -369,12 +387,12 @@ module _ (w h s c m tr items : List ℕ) (g : Ready w (table h s c m tr) items) 
           let a = rw (k, q k, of_entering u k) at v.memory in
           rw (enter_verdict_lem r.first) (a ∙ room_used known lacks (entered w held r.first whole) held)
 
-      enter_line : r.kind ≡ 10 → e.fault ≡ 0 → (e.child ≡ child_of w held r.first whole) × (t' ≡ entered w held r.first whole)
+      enter_line : r.kind ≡ 10 → verdict_of e ≡ 0 → (child_in e ≡ Some (child_of w held r.first whole)) × (t' ≡ entered w held r.first whole)
       enter_line k z =
           let (a, b) = has_room (ltb r.first (states_in h)) (lacks_room w held r.first whole) (sym (enter_fault k) ∙ z) in
           (rw (k, q k, of_entering u k, a, b) at v.child, rw (k, q k, of_entering u k, a, b) at v.memory)
 
-      verdict_is : ItemsTaken h items r fault items' → walking_verdict now r ≡ e.fault
+      verdict_is : ItemsTaken h items r fault items' → walking_verdict now r ≡ (verdict_of e)
       unfolding walking_verdict
       verdict_is (item k f) = rw k (sym ((not_entered_lem (λ l. omega (arith, k, l))).0 ∙ f.0))
       verdict_is (entering k f i) = rw k (enter_verdict_lem r.first ∙ sym (enter_fault k))
@@ -383,13 +401,13 @@ module _ (w h s c m tr items : List ℕ) (g : Ready w (table h s c m tr) items) 
       verdict_is (misplaced n9 n10 n11 n12 f i) = rw (ne_eqb r.kind 9 n9, ne_eqb r.kind 10 n10, ne_eqb r.kind 11 n11, ne_eqb r.kind 12 n12)
           (sym ((not_entered_lem n10).0 ∙ f))
 
-      line_is : ItemsTaken h items r fault items' → e.fault ≡ 0 → accepted_line now r ≡ told_line w t' r e.child
+      line_is : ItemsTaken h items r fault items' → verdict_of e ≡ 0 → accepted_line now r ≡ told_line w t' r (child_in e)
       unfolding accepted_line told_line
-      line_is (item k f) z = rw k
+      line_is (item k f) z = rw (k, childless (λ l. omega (arith, k, l)))
       line_is (entering k f i) z = rw (k, (enter_line k z).0, (enter_line k z).1)
-      line_is (changing k f i) z = rw (k, (not_entered_lem (λ l. omega (arith, k, l))).1)
-      line_is (winning k f i) z = rw (k, (not_entered_lem (λ l. omega (arith, k, l))).1)
-      line_is (misplaced n9 n10 n11 n12 f i) z = rw (ne_eqb r.kind 9 n9, ne_eqb r.kind 10 n10, ne_eqb r.kind 11 n11, ne_eqb r.kind 12 n12)
+      line_is (changing k f i) z = rw (k, childless (λ l. omega (arith, k, l)), (not_entered_lem (λ l. omega (arith, k, l))).1)
+      line_is (winning k f i) z = rw (k, childless (λ l. omega (arith, k, l)), (not_entered_lem (λ l. omega (arith, k, l))).1)
+      line_is (misplaced n9 n10 n11 n12 f i) z = rw (childless n10, ne_eqb r.kind 9 n9, ne_eqb r.kind 10 n10, ne_eqb r.kind 11 n11, ne_eqb r.kind 12 n12)
 
       table_is : ItemsTaken h items r fault items' → t' ≡ table_after now r
       unfolding table_after
@@ -414,7 +432,7 @@ module _ (w h s c m tr items : List ℕ) (g : Ready w (table h s c m tr) items) 
           kept_by (λ (y : Table). length y.matched) (eqb (entering_verdict now r.first) 0) (entered w held r.first whole) held (λ a.
           (enters_right w (covered_sound w g.covered) r.first (stamp_in h) (subject_of items) (eqb-true (entering_verdict now r.first) 0 a)).kept.stay.matched_room))
 
-      pub tell_ready : Narrow r → Tellable w t' r e.fault
+      pub tell_ready : Narrow r → Tellable w t' r (verdict_of e)
       tell_ready n = record {
         matched = ap (λ (y : Table). length y.matched) (table_is u) ∙ room_stays ∙ g.matched;
         changing = λ z k.
@@ -427,15 +445,15 @@ module _ (w h s c m tr items : List ℕ) (g : Ready w (table h s c m tr) items) 
             rw b (g.covered, ltb-true r.first (states_in h) o, n.winner k);
       }
 
-      pub replies_told : (out : List ℕ) (at offset x : ℕ) (out' : List ℕ) → Said (printed e.fault offset (told_line w t' r e.child)) out at x out'
-          → Replies now offset r out at (record { used = x; ends = eqb e.fault 10 }) out' t' items'
+      pub replies_told : (out : List ℕ) (at offset x : ℕ) (out' : List ℕ) → Said (printed (verdict_of e) offset (told_line w t' r (child_in e))) out at x out'
+          → (b : Bool) → b ≡ eqb (verdict_of e) 10 → Replies now offset r out at (record { used = x; ends = b }) out' t' items'
       unfolding walking_line ends
-      replies_told out at offset x out' l = record {
+      replies_told out at offset x out' l b q = record {
         line = rw (
           verdict_is u,
-          printed_by (eqb e.fault 0) (accepted_line now r) (told_line w t' r e.child) (refused_line e.fault offset) (λ z. line_is u (eqb-true e.fault 0 z)),
+          printed_by (eqb (verdict_of e) 0) (accepted_line now r) (told_line w t' r (child_in e)) (refused_line (verdict_of e) offset) (λ z. line_is u (eqb-true (verdict_of e) 0 z)),
         ) l;
         table = table_is u;
         items = items_are u;
-        ends = rw (verdict_is u);
+        ends = q ∙ rw (verdict_is u);
       }

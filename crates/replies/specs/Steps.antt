@@ -1,6 +1,7 @@
 -- A record after kind 8 in its steps: the items, an enter's call, the line. For contracts within and cores alone. Assumes nothing.
-use Rattle.std.specs.Prelude.{◌≡◌, Bool, cond, ◌&&◌, List, [], ℕ, ◌<◌, length, eqb, ltb}
-use Rattle.settle.specs.declared.Settled.{Settled}
+use Rattle.std.specs.Prelude.{◌≡◌, Bool, cond, ◌&&◌, List, [], ℕ, ◌<◌, length, eqb, ltb, Option, Some, None, Result, Ok, Err}
+use Rattle.lent.specs.declared.Refusal.{Refusal}
+use Rattle.lent.specs.Refusals.{verdict_of}
 use Rattle.table.specs.Tables.{Table, states_in}
 use Rattle.table.specs.Entering.{lacks_room, child_of, entered}
 use Rattle.looking.specs.Calls.{rules_at, winner_in}
@@ -9,7 +10,6 @@ use Rattle.covered.specs.Covered.{Covered}
 use Rattle.records.specs.declared.Record.{Record}
 use Rattle.records.specs.Rows.{empty_row}
 use Rattle.wording.specs.Lines.{state_line, changed_line, winner_line}
-use Rattle.replies.specs.declared.Entered.{Entered}
 use Rattle.replies.specs.Walking.{item_fault, with_fit}
 
 -- a number that is no state's is refused by 4
@@ -32,15 +32,15 @@ pub data ItemsTaken (head items : List ℕ) (r : Record) (fault : ℕ) (items' :
 abbrev pub enters_by : ℕ → ℕ → Bool
 enters_by kind fault = eqb kind 10 && eqb fault 0
 
--- entering refuses by 5 alone
-abbrev pub entered_of : Settled → Entered
-entered_of (Settled.At child) = record { fault = 0; child = child }
-entered_of Settled.NoRoom = record { fault = 5; child = 0 }
+-- the child of an enter that was accepted
+abbrev pub child_in : Result (Option ℕ) Refusal → Option ℕ
+child_in (Ok child) = child
+child_in (Err refusal) = None
 
 -- the refusal, the child and the table after an enter, if it is one
-pub record EntersIf (w : List ℕ) (t : Table) (kind parent fault : ℕ) (row : List ℕ) (e : Entered) (t' : Table) : Type 0 where
-  pub refusal : e.fault ≡ cond (enters_by kind fault) (cond (lacks_room w t parent row) 5 0) fault
-  pub child : e.child ≡ cond (enters_by kind fault) (cond (lacks_room w t parent row) 0 (child_of w t parent row)) 0
+pub record EntersIf (w : List ℕ) (t : Table) (kind parent fault : ℕ) (row : List ℕ) (e : Result (Option ℕ) Refusal) (t' : Table) : Type 0 where
+  pub refusal : verdict_of e ≡ cond (enters_by kind fault) (cond (lacks_room w t parent row) 5 0) fault
+  pub child : child_in e ≡ cond (enters_by kind fault) (cond (lacks_room w t parent row) None (Some (child_of w t parent row))) None
   pub memory : t' ≡ cond (enters_by kind fault) (cond (lacks_room w t parent row) t (entered w t parent row)) t
 
 -- what the calls that only read rely on
@@ -49,9 +49,9 @@ pub record Tellable (w : List ℕ) (t : Table) (r : Record) (fault : ℕ) : Type
   pub changing : fault ≡ 0 → r.kind ≡ 11 → Covered w t × (r.first < states_in t.head) × (r.second < states_in t.head)
   pub winning : fault ≡ 0 → r.kind ≡ 12 → Covered w t × (r.first < states_in t.head) × (r.second < 65536)
 
--- what is printed of a record whose call is made: `accepted_line`, over the table after it
-unfoldable pub told_line : List ℕ → Table → Record → ℕ → List ℕ
-told_line w t r child =
-    cond (eqb r.kind 10) (state_line child (rules_at t child))
-    (cond (eqb r.kind 11) (changed_line (changed_in w t r.first r.second))
-    (cond (eqb r.kind 12) (winner_line w r.second (winner_in w t r.first r.second)) []))
+-- what is printed of a record whose call is made: `accepted_line`, over the table after it, of an enter's child
+unfoldable pub told_line : List ℕ → Table → Record → Option ℕ → List ℕ
+told_line w t r (Some child) = state_line child (rules_at t child)
+told_line w t r None =
+    cond (eqb r.kind 11) (changed_line (changed_in w t r.first r.second))
+    (cond (eqb r.kind 12) (winner_line w r.second (winner_in w t r.first r.second)) [])

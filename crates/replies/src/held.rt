@@ -1,5 +1,6 @@
 // For callers that hold the sheet and the table to what the calls before have left, and lend room for a line.
-ghost use Rattle.std.specs.Prelude.{◌≡◌, true, ◌≤◌, ◌<◌, length, take};
+ghost use Rattle.std.specs.Prelude.{◌≡◌, true, ◌≤◌, ◌<◌, length, take, eqb};
+ghost use Rattle.lent.specs.Refusals.{verdict_of};
 ghost use Rattle.typed.specs.Typed.{inputs_row};
 ghost use Rattle.table.specs.Tables.{table, states_in};
 ghost use Rattle.cascade.specs.Calls.{changed_in};
@@ -11,34 +12,35 @@ ghost use Rattle.selector.specs.Checks.{row_fits, tags_ascend};
 ghost use Rattle.wording.specs.Lines.{changed_line, winner_line, Said, Room};
 ghost use Rattle.replies.specs.Walking.{walking, subject_of, printed, item_fault, with_fit};
 ghost use Rattle.replies.specs.Memory.{Ready, Replies};
-ghost use Rattle.replies.specs.Steps.{enters_by, entered_of, lost_in, lost_either, ItemsTaken, EntersIf, Tellable, told_line};
+ghost use Rattle.replies.specs.Steps.{enters_by, child_in, lost_in, lost_either, ItemsTaken, EntersIf, Tellable, told_line};
 
-use crate::{Entered, Replied};
+use crate::Replied;
 use cascade::held::changed_properties;
 use entering::held::enter_subject;
+use lent::Refusal;
 use lent::words::{copy_into, widen_into, word};
 use looking::held::winning_source;
 use matcher::held::matching_rules;
 use owned::SelectorInputsOwned;
 use records::Record;
 use records::held::{half, item_over, put_item};
-use settle::Settled;
 use table::layout;
 use typed::SelectorInputs;
 
 // ---- 9
 
-fn take_item(items: &mut [u32], which: u32, id: u32) -> u32
-    ensures { (result ≡ item_fault items.old which) × (items.new ≡ with_fit items.old which id) }
+// Refused by 10 as the record at this offset.
+fn take_item(items: &mut [u32], which: u32, id: u32, offset: u64) -> Result<(), Refusal>
+    ensures { (verdict_of result ≡ item_fault items.old which) × (items.new ≡ with_fit items.old which id) }
 {
     if 3 < which {
-        return 10;
+        return Err(Refusal::BadRecord(offset));
     }
     if item_over(items, 16, which) {
-        return 2;
+        return Err(Refusal::OverSize);
     }
     put_item(items, 16, which, id);
-    0
+    Ok(())
 }
 
 // ---- 10
@@ -52,9 +54,10 @@ fn owned_row(items: &[u32]) -> [u32; 38]
     let p = x.part_tag;
     let c = x.classes;
     let s = x.pseudos;
-    let owned = SelectorInputsOwned::with_part(t, p, c, x.class_count, s, x.pseudo_count);
-    let inputs = owned.inputs;
-    inputs.row()
+    match SelectorInputsOwned::with_part(t, p, c, x.class_count, s, x.pseudo_count) {
+        Ok(owned) => owned.inputs.row(),
+        Err(_) => SelectorInputs::empty().row(),
+    }
 }
 
 // Of an enter alone: other records have no subject.
@@ -67,25 +70,7 @@ fn subject_row(items: &[u32], kind: u32) -> [u32; 38]
     [0u32; 38]
 }
 
-fn enters(kind: u32, fault: u32) -> bool
-    ensures { result ≡ enters_by kind fault }
-{
-    if kind == 10 {
-        return fault == 0;
-    }
-    false
-}
-
-fn entered(settled: Settled) -> Entered
-    ensures { result ≡ entered_of settled }
-{
-    match settled {
-        Settled::At(child) => Entered { fault: 0, child },
-        Settled::NoRoom => Entered { fault: 5, child: 0 },
-    }
-}
-
-// The one record that writes the table, unless it is refused.
+// The one record that writes the table, unless it is refused: its child.
 fn take_enter(
     sheet: &[u32],
     head: &mut [u32],
@@ -95,17 +80,18 @@ fn take_enter(
     transitions: &mut [u32],
     kind: u32,
     parent: u32,
-    fault: u32,
+    checked: Result<(), Refusal>,
     row: &[u32],
-) -> Entered
+) -> Result<Option<u32>, Refusal>
     requires covered { Covered sheet.now (table head.old states.old cursors.old matched.old transitions.old) }
-    requires parent_bound { enters_by kind fault ≡ true → (parent < states_in head.old) × (row_fits 16 row.now 0 ≡ true) × (tags_ascend (row_at 16 row.now 0) ≡ true) }
-    ensures { EntersIf sheet.now (table head.old states.old cursors.old matched.old transitions.old) kind parent fault row.now result (table head.new states.new cursors.new matched.new transitions.new) }
+    requires parent_bound { enters_by kind (verdict_of checked) ≡ true → (parent < states_in head.old) × (row_fits 16 row.now 0 ≡ true) × (tags_ascend (row_at 16 row.now 0) ≡ true) }
+    ensures { EntersIf sheet.now (table head.old states.old cursors.old matched.old transitions.old) kind parent (verdict_of checked) row.now result (table head.new states.new cursors.new matched.new transitions.new) }
 {
-    if !enters(kind, fault) {
-        return Entered { fault, child: 0 };
+    checked?;
+    if kind != 10 {
+        return Ok(None);
     }
-    entered(enter_subject(
+    let Some(child) = enter_subject(
         sheet,
         head,
         states,
@@ -114,7 +100,10 @@ fn take_enter(
         transitions,
         parent,
         row,
-    ))
+    ) else {
+        return Err(Refusal::NoRoom);
+    };
+    Ok(Some(child))
 }
 
 // ---- 11
@@ -215,39 +204,37 @@ fn tell_winner(
 
 // ---- any
 
-fn lost(head: &[u32], state: u32) -> u32
-    ensures { result ≡ lost_in head.now state }
+fn check_state(head: &[u32], state: u32) -> Result<(), Refusal>
+    ensures { verdict_of result ≡ lost_in head.now state }
 {
     if state < word(head, layout::STATES) {
-        return 0;
+        return Ok(());
     }
-    4
+    Err(Refusal::NotAState)
 }
 
-fn lost_either(head: &[u32], old: u32, new: u32) -> u32
-    ensures { result ≡ lost_either head.now old new }
+fn check_states(head: &[u32], old: u32, new: u32) -> Result<(), Refusal>
+    ensures { verdict_of result ≡ lost_either head.now old new }
 {
-    if old < word(head, layout::STATES) {
-        return lost(head, new);
-    }
-    4
+    check_state(head, old)?;
+    check_state(head, new)
 }
 
-// The items after a record, and its refusal as far as it is known before the call.
-fn take_items(head: &[u32], items: &mut [u32], item: Record) -> u32
+// The items after a record at this offset, and its refusal as far as it is known before the call.
+fn take_items(head: &[u32], items: &mut [u32], item: Record, offset: u64) -> Result<(), Refusal>
     requires { length items.old ≡ 38 }
-    ensures { ItemsTaken head.now items.old item result items.new }
+    ensures { ItemsTaken head.now items.old item (verdict_of result) items.new }
 {
     let kind = item.kind;
     match kind {
-        9 => take_item(items, item.first, item.second),
+        9 => take_item(items, item.first, item.second, offset),
         10 => {
             copy_into(items, 0, &[0u32; 38]);
-            lost(head, item.first)
+            check_state(head, item.first)
         }
-        11 => lost_either(head, item.first, item.second),
-        12 => lost(head, item.first),
-        _ => 10,
+        11 => check_states(head, item.first, item.second),
+        12 => check_state(head, item.first),
+        _ => Err(Refusal::BadRecord(offset)),
     }
 }
 
@@ -260,51 +247,60 @@ fn tell(
     matched: &[u32],
     transitions: &[u32],
     item: Record,
-    entered: Entered,
+    entered: Result<Option<u32>, Refusal>,
     out: &mut [u8],
     at: usize,
     offset: u64,
 ) -> usize
-    requires tellable { Tellable sheet.now (table head.now states.now cursors.now matched.now transitions.now) item entered.fault }
+    requires tellable { Tellable sheet.now (table head.now states.now cursors.now matched.now transitions.now) item (verdict_of entered) }
     requires room { Room at out.old }
-    ensures { Said (printed entered.fault offset (told_line sheet.now (table head.now states.now cursors.now matched.now transitions.now) item entered.child)) out.old at result out.new }
+    ensures { Said (printed (verdict_of entered) offset (told_line sheet.now (table head.now states.now cursors.now matched.now transitions.now) item (child_in entered))) out.old at result out.new }
 {
-    if entered.fault != 0 {
-        return wording::held::refused(out, at, entered.fault, offset);
+    match entered {
+        Err(refusal) => wording::held::refused(out, at, refusal.number(), offset),
+        Ok(Some(child)) => wording::held::state(
+            out,
+            at,
+            child,
+            matching_rules(states, matched, child),
+        ),
+        Ok(None) => match item.kind {
+            11 => tell_changed(
+                sheet,
+                head,
+                states,
+                cursors,
+                matched,
+                transitions,
+                item.first,
+                item.second,
+                out,
+                at,
+            ),
+            12 => tell_winner(
+                sheet,
+                head,
+                states,
+                cursors,
+                matched,
+                transitions,
+                item.first,
+                item.second,
+                out,
+                at,
+            ),
+            _ => at,
+        },
     }
-    let kind = item.kind;
-    match kind {
-        10 => wording::held::state(
-            out,
-            at,
-            entered.child,
-            matching_rules(states, matched, entered.child),
-        ),
-        11 => tell_changed(
-            sheet,
-            head,
-            states,
-            cursors,
-            matched,
-            transitions,
-            item.first,
-            item.second,
-            out,
-            at,
-        ),
-        12 => tell_winner(
-            sheet,
-            head,
-            states,
-            cursors,
-            matched,
-            transitions,
-            item.first,
-            item.second,
-            out,
-            at,
-        ),
-        _ => at,
+}
+
+// Whether the program ends after such a record.
+fn ends(entered: Result<Option<u32>, Refusal>) -> bool
+    ensures { result ≡ eqb (verdict_of entered) 10 }
+{
+    match entered {
+        Err(Refusal::BadRecord(_)) => true,
+        _ => false,
     }
 }
 
@@ -328,7 +324,7 @@ pub fn reply(
     ensures { Replies (walking sheet.now (table head.old states.old cursors.old matched.old transitions.old) items.old) offset item out.old at result out.new (table head.new states.new cursors.new matched.new transitions.new) items.new }
 {
     let row = subject_row(items, item.kind);
-    let fault = take_items(head, items, item);
+    let checked = take_items(head, items, item, offset);
     let entered = take_enter(
         sheet,
         head,
@@ -338,7 +334,7 @@ pub fn reply(
         transitions,
         item.kind,
         item.first,
-        fault,
+        checked,
         &row,
     );
     let used = tell(
@@ -356,6 +352,6 @@ pub fn reply(
     );
     Replied {
         used,
-        ends: entered.fault == 10,
+        ends: ends(entered),
     }
 }

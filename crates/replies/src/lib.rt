@@ -4,15 +4,8 @@
 pub mod held;
 
 // Where the next line goes, and whether the program ends.
-#[derive(Clone, Copy)]
+#[derive(Clone, Copy, Debug, PartialEq, Eq)]
 pub struct Replied {
     pub used: usize,
     pub ends: bool,
-}
-
-// Why a record is refused, or 0; and the child of an enter that is not.
-#[derive(Clone, Copy)]
-struct Entered {
-    fault: u32,
-    child: u32,
 }

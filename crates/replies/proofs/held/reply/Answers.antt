@@ -5,12 +5,12 @@ use Rattle.replies.proofs.held.reply.Goals as goal
 
 pub take_enter-entered-requires : goal.take_enter-entered-requires
 take_enter-entered-requires c =
-    record { covered = c.requires.ready.covered; parent_bound = enter_ready _ _ _ _ _ _ _ c.requires.ready _ _ c.subject_row-row.ensures _ _ c.take_items-fault.ensures }
+    record { covered = c.requires.ready.covered; parent_bound = enter_ready _ _ _ _ _ _ _ c.requires.ready _ _ c.subject_row-row.ensures _ _ c.take_items-checked.ensures }
 
 pub tell-used-requires : goal.tell-used-requires
 tell-used-requires c =
-    record { tellable = tell_ready _ _ _ _ _ _ _ c.requires.ready _ _ c.subject_row-row.ensures _ _ c.take_items-fault.ensures _ _ c.take_enter-entered.ensures c.requires.narrow; room = c.requires.room }
+    record { tellable = tell_ready _ _ _ _ _ _ _ c.requires.ready _ _ c.subject_row-row.ensures _ _ c.take_items-checked.ensures _ _ c.take_enter-entered.ensures c.requires.narrow; room = c.requires.room }
 
 pub returns : goal.returns
 returns c =
-    replies_told _ _ _ _ _ _ _ c.requires.ready _ _ c.subject_row-row.ensures _ _ c.take_items-fault.ensures _ _ c.take_enter-entered.ensures _ _ _ _ _ c.tell-used.ensures
+    replies_told _ _ _ _ _ _ _ c.requires.ready _ _ c.subject_row-row.ensures _ _ c.take_items-checked.ensures _ _ c.take_enter-entered.ensures _ _ _ _ _ c.tell-used.ensures _ c.ends.ensures

@@ -1,17 +1,22 @@
-use Rattle.replies.proofs.Replying.{steps_none, steps_enter, enter_fine}
-use mathlib.Core.Path.{ap}
-use mathlib.Core.Bool.{not}
+use borrow.Author.Rules.{rules}
+use Rattle.replies.proofs.Replying.{steps_refused, steps_none, steps_lacks, steps_enter, enter_fine}
 use Rattle.replies.proofs.held.take_enter.Goals as goal
 
 -- `replies::held::take_enter` meets its contract. Assumes nothing.
 
-pub returns-then-not-enters : goal.returns-then-not-enters
-returns-then-not-enters c = steps_none _ _ _ _ _ _ _ c.enters.ensures (ap not c.if-not-enters.true)
+pub returns-in_err-checked : goal.returns-in_err-checked
+returns-in_err-checked c = steps_refused _ _ _ _ _ c.in_err-checked.was (search rules)
+
+pub returns-then-kind-ne10 : goal.returns-then-kind-ne10
+returns-then-kind-ne10 c = steps_none _ _ _ _ _ c.in_ok-checked.was c.if-kind-ne10.true
 
 pub enter_subject-requires : goal.enter_subject-requires
 enter_subject-requires c =
-    let asked = enter_fine _ _ _ _ _ _ c.enters.ensures (ap not c.if-not-enters.false) c.requires.covered c.requires.parent_bound in record { sheet_value = asked.0; row_value = asked.1 }
+    let asked = enter_fine _ _ _ _ c.in_ok-checked.was c.if-kind-ne10.false c.requires.covered c.requires.parent_bound in
+    record { sheet_value = asked.0; row_value = asked.1 }
+
+pub returns-in_default : goal.returns-in_default
+returns-in_default c = steps_lacks _ _ _ _ _ c.in_ok-checked.was c.if-kind-ne10.false c.enter_subject.ensures (search rules)
 
 pub returns : goal.returns
-returns c =
-    steps_enter _ _ _ _ _ _ _ c.enters.ensures (ap not c.if-not-enters.false) _ _ c.enter_subject.ensures _ c.entered.ensures
+returns c = steps_enter _ _ _ _ _ c.in_ok-checked.was c.if-kind-ne10.false c.enter_subject.ensures c.in-Some.is
