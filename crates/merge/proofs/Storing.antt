@@ -106,8 +106,9 @@ module _ (v : List ℕ) (n j : ℕ) (e : sheet_shape v ≡ true) (h : n ≤ Layo
 pub steps_end : (v : List ℕ) (s n j : ℕ) (w w' : List ℕ)
     → Laying (λ i. step_words (part_at v i)) (Layout.step_place s) n w j w'
     → n ≤ j
-    → w' ≡ sets w (Layout.step_place s) (flat_map step_words (spread (part_at v) 0 n))
-steps_end v s n j w w' l h = rw (← step_rows v n) (lay_all l h)
+    → n ≡ Layout.steps_in v
+    → w' ≡ sets w (Layout.step_place s) (flat_map step_words (spread (part_at v) 0 (Layout.steps_in v)))
+steps_end v s n j w w' l h e = rw (← e, ← step_rows v n) (lay_all l h)
 
 -- ---- rules
 

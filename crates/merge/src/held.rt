@@ -19,6 +19,15 @@ use lent::words::{copy_into, wide, word};
 use sheet::layout;
 use sheet::shape::step_place;
 
+// What is added: the other sheet, in shape, after the counts of the one that it comes into.
+#[derive(Clone, Copy)]
+struct Addition<'a> {
+    c: Counts,
+    other: &'a [u32],
+    ghost within: { Within c },
+    ghost shape: { sheet_shape other.now ≡ true },
+}
+
 // The first n entries of a pool, after e.
 fn put_pool(sheet: &mut [u32], base: usize, room: usize, e: u32, other: &[u32], n: u32)
     requires { (base ≤ 100000) × (room ≤ 4096) × (base + 3 * room ≤ length other.now) × (n ≤ room) }
@@ -40,22 +49,21 @@ fn put_pool(sheet: &mut [u32], base: usize, room: usize, e: u32, other: &[u32], 
     );
 }
 
-// The other sheet's steps, after s.
-fn put_held_steps(sheet: &mut [u32], s: u32, other: &[u32], n: u32)
-    requires { (s ≤ 2048) × (n ≤ steps_in other.now) × (sheet_shape other.now ≡ true) }
-    ensures { sheet.new ≡ sets sheet.old (step_place s) (flat_map step_words (spread (part_at other.now) 0 n)) }
+// The other sheet's steps.
+fn put_held_steps(sheet: &mut [u32], a: Addition)
+    ensures { sheet.new ≡ sets sheet.old (step_place a.entry.c.steps) (flat_map step_words (spread (part_at a.entry.other.now) 0 (steps_in a.entry.other.now))) }
 {
-    let combinators = layout::STEP_COMBINATORS;
+    let n = word(a.other, layout::STEPS);
     for j in 0..n {
-        let code = cell(other, combinators, j);
-        put_step(sheet, s + j, other, step_place(j), code);
+        let code = cell(a.other, layout::STEP_COMBINATORS, j);
+        put_step(sheet, a.c.steps + j, a.other, step_place(j), code);
     }
 }
 
 // The row of rule k of the other sheet, after the rules that are held, its source index and its ends raised.
-fn put_held_rule(sheet: &mut [u32], c: Counts, other: &[u32], k: u32)
-    requires { Within c × (k < rules_in other.now) × (sheet_shape other.now ≡ true) }
-    ensures { sheet.new ≡ sets sheet.old (RULE-ORIGIN + RULE-WORDS * (c.rules + k)) (held_row c other.now k) }
+fn put_held_rule(sheet: &mut [u32], a: Addition, k: u32)
+    requires { k < rules_in a.other.now }
+    ensures { sheet.new ≡ sets sheet.old (RULE-ORIGIN + RULE-WORDS * (a.entry.c.rules + k)) (held_row a.entry.c a.entry.other.now k) }
 {
     let origins = layout::RULE_ORIGINS;
     let sources = layout::RULE_SOURCES;
@@ -63,102 +71,97 @@ fn put_held_rule(sheet: &mut [u32], c: Counts, other: &[u32], k: u32)
     let steps = layout::RULE_STEP_ENDS;
     let entries = layout::RULE_ENTRY_ENDS;
     let row = [
-        cell(other, origins, k),
-        c.next + cell(other, sources, k),
-        cell(other, orders, k),
-        c.steps + cell(other, steps, k),
-        c.entries + cell(other, entries, k),
+        cell(a.other, origins, k),
+        a.c.next + cell(a.other, sources, k),
+        cell(a.other, orders, k),
+        a.c.steps + cell(a.other, steps, k),
+        a.c.entries + cell(a.other, entries, k),
     ];
-    put_row(sheet, layout::RULE_ORIGIN, wide(c.rules + k), &row);
+    put_row(sheet, layout::RULE_ORIGIN, wide(a.c.rules + k), &row);
 }
 
 // The rows of the other sheet's rules.
-fn put_held_rules(sheet: &mut [u32], c: Counts, other: &[u32])
-    requires { Within c × (sheet_shape other.now ≡ true) }
-    ensures { sheet.new ≡ sets sheet.old (RULE-ORIGIN + RULE-WORDS * c.rules) (rule_words c.steps c.entries (map (shift_rule c.next) (sheet_of other.now).rules)) }
+fn put_held_rules(sheet: &mut [u32], a: Addition)
+    ensures { sheet.new ≡ sets sheet.old (RULE-ORIGIN + RULE-WORDS * a.entry.c.rules) (rule_words a.entry.c.steps a.entry.c.entries (map (shift_rule a.entry.c.next) (sheet_of a.entry.other.now).rules)) }
 {
-    let n = word(other, layout::RULES);
+    let n = word(a.other, layout::RULES);
     for k in 0..n {
-        put_held_rule(sheet, c, other, k);
+        put_held_rule(sheet, a, k);
     }
 }
 
 // The row of direct style k of the other sheet.
-fn put_held_style(sheet: &mut [u32], c: Counts, other: &[u32], k: u32)
-    requires { Within c × (k < styles_in other.now) × (sheet_shape other.now ≡ true) }
-    ensures { sheet.new ≡ sets sheet.old (STYLE-ORIGIN + STYLE-WORDS * (c.styles + k)) (held_style_row c other.now k) }
+fn put_held_style(sheet: &mut [u32], a: Addition, k: u32)
+    requires { k < styles_in a.other.now }
+    ensures { sheet.new ≡ sets sheet.old (STYLE-ORIGIN + STYLE-WORDS * (a.entry.c.styles + k)) (held_style_row a.entry.c a.entry.other.now k) }
 {
     let origins = layout::STYLE_ORIGINS;
     let sources = layout::STYLE_SOURCES;
     let entries = layout::STYLE_ENTRY_ENDS;
     let row = [
-        cell(other, origins, k),
-        c.next + cell(other, sources, k),
-        c.style_entries + cell(other, entries, k),
+        cell(a.other, origins, k),
+        a.c.next + cell(a.other, sources, k),
+        a.c.style_entries + cell(a.other, entries, k),
     ];
-    put_row(sheet, layout::STYLE_ORIGIN, wide(c.styles + k), &row);
+    put_row(sheet, layout::STYLE_ORIGIN, wide(a.c.styles + k), &row);
 }
 
-fn put_held_styles(sheet: &mut [u32], c: Counts, other: &[u32])
-    requires { Within c × (sheet_shape other.now ≡ true) }
-    ensures { sheet.new ≡ sets sheet.old (STYLE-ORIGIN + STYLE-WORDS * c.styles) (style_words c.style_entries (map (shift_style c.next) (sheet_of other.now).styles)) }
+fn put_held_styles(sheet: &mut [u32], a: Addition)
+    ensures { sheet.new ≡ sets sheet.old (STYLE-ORIGIN + STYLE-WORDS * a.entry.c.styles) (style_words a.entry.c.style_entries (map (shift_style a.entry.c.next) (sheet_of a.entry.other.now).styles)) }
 {
-    let n = word(other, layout::STYLES);
+    let n = word(a.other, layout::STYLES);
     for k in 0..n {
-        put_held_style(sheet, c, other, k);
+        put_held_style(sheet, a, k);
     }
 }
 
 // The other sheet's rules.
-fn put_rules(sheet: &mut [u32], c: Counts, other: &[u32])
-    requires { Within c × (sheet_shape other.now ≡ true) }
-    ensures { sheet.new ≡ lay_rules c.rules c.steps c.entries (map (shift_rule c.next) (sheet_of other.now).rules) sheet.old }
+fn put_rules(sheet: &mut [u32], a: Addition)
+    ensures { sheet.new ≡ lay_rules a.entry.c.rules a.entry.c.steps a.entry.c.entries (map (shift_rule a.entry.c.next) (sheet_of a.entry.other.now).rules) sheet.old }
 {
     put_pool(
         sheet,
         layout::ENTRY,
         layout::ENTRY_ROOM,
-        c.entries,
-        other,
-        word(other, layout::ENTRIES),
+        a.c.entries,
+        a.other,
+        word(a.other, layout::ENTRIES),
     );
-    put_held_steps(sheet, c.steps, other, word(other, layout::STEPS));
-    put_held_rules(sheet, c, other);
+    put_held_steps(sheet, a);
+    put_held_rules(sheet, a);
 }
 
 // The other sheet's direct styles.
-fn put_styles(sheet: &mut [u32], c: Counts, other: &[u32])
-    requires { Within c × (sheet_shape other.now ≡ true) }
-    ensures { sheet.new ≡ lay_styles c.styles c.style_entries (map (shift_style c.next) (sheet_of other.now).styles) sheet.old }
+fn put_styles(sheet: &mut [u32], a: Addition)
+    ensures { sheet.new ≡ lay_styles a.entry.c.styles a.entry.c.style_entries (map (shift_style a.entry.c.next) (sheet_of a.entry.other.now).styles) sheet.old }
 {
     put_pool(
         sheet,
         layout::STYLE_ENTRY,
         layout::STYLE_ENTRY_ROOM,
-        c.style_entries,
-        other,
-        word(other, layout::STYLE_ENTRIES),
+        a.c.style_entries,
+        a.other,
+        word(a.other, layout::STYLE_ENTRIES),
     );
-    put_held_styles(sheet, c, other);
+    put_held_styles(sheet, a);
 }
 
 // The next source index.
-fn next_after(next: u32, other: &[u32]) -> u32
-    requires { (next ≤ 65536) × (sheet_shape other.now ≡ true) }
-    ensures { result ≡ next_after next (indexes_of (sheet_of other.now)) }
+fn next_after(a: Addition) -> u32
+    ensures { result ≡ next_after a.entry.c.next (indexes_of (sheet_of a.entry.other.now)) }
 {
-    if is_bare(other) {
-        return next;
+    if is_bare(a.other) {
+        return a.c.next;
     }
-    next + largest_index(other) + 1
+    a.c.next + largest_index(a.other) + 1
 }
 
 // The counts after.
-fn cascade_counts(c: Counts, other: &[u32]) -> Counts
-    requires { Within c × (sheet_shape other.now ≡ true) }
-    ensures { result ≡ sum_counts c other.now }
+fn cascade_counts(a: Addition) -> Counts
+    ensures { result ≡ sum_counts a.entry.c a.entry.other.now }
 {
-    let o = counts(other);
+    let c = a.c;
+    let o = counts(a.other);
     Counts {
         rules: c.rules + o.rules,
         steps: c.steps + o.steps,
@@ -166,7 +169,7 @@ fn cascade_counts(c: Counts, other: &[u32]) -> Counts
         entries: c.entries + o.entries,
         styles: c.styles + o.styles,
         style_entries: c.style_entries + o.style_entries,
-        next: next_after(c.next, other),
+        next: next_after(a),
     }
 }
 
@@ -175,8 +178,11 @@ pub fn put_cascade(sheet: &mut [u32], other: &[u32])
     requires { cascade_verdict sheet.old other.now ≡ 0 }
     ensures { sheet.new ≡ pushed_cascade sheet.old other.now }
 {
-    let c = counts(sheet);
-    put_rules(sheet, c, other);
-    put_styles(sheet, c, other);
-    put_counts(sheet, cascade_counts(c, other));
+    let a = Addition {
+        c: counts(sheet),
+        other,
+    };
+    put_rules(sheet, a);
+    put_styles(sheet, a);
+    put_counts(sheet, cascade_counts(a));
 }
