@@ -52,10 +52,8 @@ pub fn affected_channels(ids: &[u16], masks: &[u32]) -> ChannelSet
     ensures { result.0 ≡ channels_of masks.now ids.now }
 {
     let mut set = 0;
-    let mut i = 0;
-    while i < ids.len() {
-        set = set | word(masks, ids[i] as usize);
-        i += 1;
+    for &id in ids {
+        set |= word(masks, usize::from(id));
     }
     ChannelSet(set)
 }

@@ -2,11 +2,11 @@ use borrow.Author.Rules.{rules}
 use Rattle.channels.proofs.Joining.{join_start, join_next, join_end}
 use Rattle.channels.proofs.affected_channels.Goals as goal
 
-pub loop-i-init : goal.loop-i-init
-loop-i-init c = join_start
+pub loop-id-init : goal.loop-id-init
+loop-id-init c = join_start
 
-pub loop-i-preserved : goal.loop-i-preserved
-loop-i-preserved c = search (join_next, rules)
+pub loop-id-preserved : goal.loop-id-preserved
+loop-id-preserved c = search (join_next, rules)
 
 pub returns : goal.returns
 returns c = search (join_end, rules)
