@@ -88,17 +88,6 @@ module _ {w : List ℕ} {base room n : ℕ} {m₀ : List ℕ} {e : ℕ} {m : Lis
   pub marking_end : base + n ≤ e → ids_in m ≡ sort (resources_among (spread (entry_at w base room) 0 n) ++ ids_in m₀)
   marking_end h = let low = s.low in let high = s.high in let z : e - base ≡ n = omega arith in rw z at s.ids
 
--- ---- the kinds
-
-pub kind_resource : (k : ℕ) → k ≡ 1 → true ≡ of_resource k
-kind_resource k e = rw e
-
-pub kind_expression : (k : ℕ) → k ≡ 3 → true ≡ of_resource k
-kind_expression k e = rw e
-
-pub kind_other : (k : ℕ) → (k ≡ 1 → ⊥) → (k ≡ 3 → ⊥) → false ≡ of_resource k
-kind_other k a b = rw (ne_eqb k 1 a, ne_eqb k 3 b)
-
 -- ---- both pools: their counts are read and widened
 
 -- as `mark_resources` asks

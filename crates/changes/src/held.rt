@@ -26,10 +26,8 @@ fn add_rule(sheet: &[u32], number: u32, list: &mut [u32], used: usize) -> usize
     let ends = layout::RULE_ENTRY_ENDS;
     let ids = list_of(sheet, ends, rest(sheet, layout::ENTRY), number);
     let mut n = used;
-    let mut i = 0;
-    while i < ids.len() {
-        n = insert(list, n, ids[i]);
-        i += 1;
+    for &id in ids {
+        n = insert(list, n, id);
     }
     n
 }
@@ -41,14 +39,9 @@ fn add_rules(sheet: &[u32], rules: &[u32], others: &[u32], list: &mut [u32], use
     ensures { Holds (sort (properties_without sheet.now rules.now others.now ++ take used list.old)) list.old result list.new }
 {
     let mut n = used;
-    let mut i = 0;
-    while i < rules.len() {
-        let r = rules[i];
-        if contains(others, r) {
-            i += 1;
-        } else {
+    for &r in rules {
+        if !contains(others, r) {
             n = add_rule(sheet, r, list, n);
-            i += 1;
         }
     }
     n
@@ -92,15 +85,10 @@ fn pick(
     ensures { Holds (keep (differing sheet.now ranking old.now new.now) ids.now) into.old result into.new }
 {
     let mut n = 0;
-    let mut i = 0;
-    while i < ids.len() {
-        let p = ids[i];
-        if differs(sheet, ranking, old, new, p) {
-            into[n] = p as u16;
+    for &id in ids {
+        if differs(sheet, ranking, old, new, id) {
+            into[n] = id as u16;
             n += 1;
-            i += 1;
-        } else {
-            i += 1;
         }
     }
     n
@@ -128,11 +116,7 @@ pub fn changed(
 fn reads_resource(kind: u32) -> bool
     ensures { result ≡ of_resource kind }
 {
-    match kind {
-        1 => true,
-        3 => true,
-        _ => false,
-    }
+    kind == 1 || kind == 3
 }
 
 // Marks the properties of kind 1 or 3 among the first n entries of the pool at `base`.
@@ -141,13 +125,9 @@ fn mark_resources(sheet: &[u32], base: usize, room: usize, n: usize, marks: &mut
     requires by_index { (e : ℕ) → e < n → get_or sheet.now (base + e) 0 ≤ 65535 }
     ensures { ids_in marks.new ≡ sort (resources_among (spread (entry_at sheet.now base room) 0 n) ++ ids_in marks.old) }
 {
-    let mut e = base;
-    while e < base + n {
+    for e in base..base + n {
         if reads_resource(word(sheet, e + room)) {
             mark(marks, word(sheet, e) as u16);
-            e += 1;
-        } else {
-            e += 1;
         }
     }
 }

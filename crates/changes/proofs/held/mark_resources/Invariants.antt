@@ -1,9 +1,5 @@
-use Prim.Native.Nat.{◌+◌, ◌-◌}
 use Rattle.changes.proofs.Marking.{Marking}
 use Rattle.changes.proofs.held.mark_resources.Given as goal
 
 abbrev pub invariant-loop-e : goal.invariant-loop-e
 invariant-loop-e l = Marking l.sheet l.base l.room l.n l.initial.marks l.e l.marks
-
-abbrev pub decreases-loop-e : goal.decreases-loop-e
-decreases-loop-e l = l.base + l.n - l.e
