@@ -3,6 +3,7 @@ ghost use Rattle.std.specs.Prelude.{◌≡◌};
 ghost use Rattle.lent.specs.Refusals.{verdict_of};
 ghost use Rattle.typed.specs.Typed.{inputs_row};
 ghost use Rattle.table.specs.Tables.{table};
+ghost use Rattle.table.specs.Lent.{lent};
 ghost use Rattle.entering.specs.Answers.{front_verdict, Enter};
 
 use crate::held;
@@ -10,22 +11,14 @@ use lent::Refusal;
 use matcher::MatchState;
 use matcher::states::check_state;
 use selector::held::{row_ascends, row_fits};
+use table::Table;
 use typed::SelectorInputs;
 
 // 11, 4, 2, 1.
-fn check_front(
-    sheet: &[u32],
-    head: &[u32],
-    states: &[u32],
-    cursors: &[u32],
-    matched: &[u32],
-    transitions: &[u32],
-    parent: MatchState,
-    row: &[u32],
-) -> Result<(), Refusal>
-    ensures { verdict_of result ≡ front_verdict sheet.now (table head.now states.now cursors.now matched.now transitions.now) parent.number parent.stamp row.now }
+fn check_front(sheet: &[u32], table: Table, parent: MatchState, row: &[u32]) -> Result<(), Refusal>
+    ensures { verdict_of result ≡ front_verdict sheet.now (lent table.entry) parent.number parent.stamp row.now }
 {
-    check_state(sheet, head, states, cursors, matched, transitions, parent)?;
+    check_state(sheet, table, parent)?;
     if !row_fits(row, 0, 16) {
         return Err(Refusal::OverSize);
     }
@@ -49,16 +42,14 @@ pub fn enter_subject(
     ensures { Enter sheet.now (table head.old states.old cursors.old matched.old transitions.old) parent.number parent.stamp (inputs_row inputs) result (table head.new states.new cursors.new matched.new transitions.new) }
 {
     let row = inputs.row();
-    check_front(
-        sheet,
+    let table = Table {
         head,
         states,
         cursors,
         matched,
         transitions,
-        parent,
-        &row,
-    )?;
+    };
+    check_front(sheet, table, parent, &row)?;
     let number = held::enter_subject(
         sheet,
         head,

@@ -2,12 +2,13 @@
 ghost use Rattle.std.specs.Prelude.{◌≡◌, true, not, ◌&&◌, List, ℕ, get_or};
 ghost use Rattle.lent.specs.All.{all_below};
 ghost use Rattle.sheet.specs.Shape.{sheet_shape};
-ghost use Rattle.table.specs.Tables.{table, transitions_in, subject_place};
+ghost use Rattle.table.specs.Tables.{transitions_in, subject_place};
+ghost use Rattle.table.specs.Lent.{lent};
 ghost use Rattle.table.specs.Shape.{root_there, states_fit, ranking_fits, states_held, cursors_held, matched_held, transitions_held, classes_fit, pseudos_fit, type_flag_fits, part_flag_fits, cursors_ascend, matched_ascend, classes_ascend, pseudos_ascend, cursor_exists, rule_exists, parent_exists, child_exists, root_cursors, root_matched, counts_fit, state_fine, subject_fine, transition_fine, lists_meet, states_fine, numbers_exist, root_built, table_shape};
 ghost use Rattle.table.specs.Calls.{broken};
 
 use crate::held::roots;
-use crate::layout;
+use crate::{Table, layout};
 use idset::{compare, is_ascending};
 use lent::held::list_of;
 use lent::lists::{cell, start_of};
@@ -58,46 +59,34 @@ fn transitions_held(head: &[u32], transitions: &[u32]) -> bool
     wide(layout::TRANSITION_WORDS) * wide(word(head, layout::TRANSITIONS)) <= transitions.len()
 }
 
-fn rooms_held(
-    head: &[u32],
-    states: &[u32],
-    cursors: &[u32],
-    matched: &[u32],
-    transitions: &[u32],
-) -> bool
-    ensures { result ≡ (states_held head.now states.now && (cursors_held head.now cursors.now && (matched_held head.now matched.now && transitions_held head.now transitions.now))) }
+fn rooms_held(t: Table) -> bool
+    ensures { result ≡ (states_held t.entry.head.now t.entry.states.now && (cursors_held t.entry.head.now t.entry.cursors.now && (matched_held t.entry.head.now t.entry.matched.now && transitions_held t.entry.head.now t.entry.transitions.now))) }
 {
-    if !states_held(head, states) {
+    if !states_held(t.head, t.states) {
         return false;
     }
-    if !cursors_held(head, cursors) {
+    if !cursors_held(t.head, t.cursors) {
         return false;
     }
-    if !matched_held(head, matched) {
+    if !matched_held(t.head, t.matched) {
         return false;
     }
-    transitions_held(head, transitions)
+    transitions_held(t.head, t.transitions)
 }
 
-fn counts_fit(
-    head: &[u32],
-    states: &[u32],
-    cursors: &[u32],
-    matched: &[u32],
-    transitions: &[u32],
-) -> bool
-    ensures { result ≡ counts_fit (table head.now states.now cursors.now matched.now transitions.now) }
+fn counts_fit(t: Table) -> bool
+    ensures { result ≡ counts_fit (lent t.entry) }
 {
-    if !root_there(head) {
+    if !root_there(t.head) {
         return false;
     }
-    if !states_fit(head) {
+    if !states_fit(t.head) {
         return false;
     }
-    if !ranking_fits(head) {
+    if !ranking_fits(t.head) {
         return false;
     }
-    rooms_held(head, states, cursors, matched, transitions)
+    rooms_held(t)
 }
 
 // ---- states
@@ -151,13 +140,13 @@ fn lists_meet(head: &[u32], states: &[u32]) -> bool
     ends_at(states, matched_ends, n, word(head, layout::MATCHED))
 }
 
-fn states_fine(head: &[u32], states: &[u32], cursors: &[u32], matched: &[u32]) -> bool
-    ensures { (t : List ℕ) → result ≡ states_fine (table head.now states.now cursors.now matched.now t) }
+fn states_fine(t: Table) -> bool
+    ensures { result ≡ states_fine (lent t.entry) }
 {
-    if !each_state_fine(states, cursors, matched, word(head, layout::STATES)) {
+    if !each_state_fine(t.states, t.cursors, t.matched, word(t.head, layout::STATES)) {
         return false;
     }
-    lists_meet(head, states)
+    lists_meet(t.head, t.states)
 }
 
 // ---- cursors and rules
@@ -193,14 +182,14 @@ fn rules_exist(sheet: &[u32], matched: &[u32], n: u32) -> bool
     (0..n).all(|i| rule_exists(sheet, word(matched, wide(i))))
 }
 
-fn numbers_exist(sheet: &[u32], head: &[u32], cursors: &[u32], matched: &[u32]) -> bool
+fn numbers_exist(sheet: &[u32], t: Table) -> bool
     requires { sheet_shape sheet.now ≡ true }
-    ensures { (s t : List ℕ) → result ≡ numbers_exist sheet.now (table head.now s cursors.now matched.now t) }
+    ensures { result ≡ numbers_exist sheet.now (lent t.entry) }
 {
-    if !cursors_exist(sheet, cursors, word(head, layout::CURSORS)) {
+    if !cursors_exist(sheet, t.cursors, word(t.head, layout::CURSORS)) {
         return false;
     }
-    rules_exist(sheet, matched, word(head, layout::MATCHED))
+    rules_exist(sheet, t.matched, word(t.head, layout::MATCHED))
 }
 
 // ---- transitions
@@ -330,56 +319,42 @@ fn root_matched(states: &[u32], matched: &[u32]) -> bool
     list_of(states, ends, matched, 0).len() == 0
 }
 
-fn root_built(sheet: &[u32], states: &[u32], cursors: &[u32], matched: &[u32]) -> bool
+fn root_built(sheet: &[u32], t: Table) -> bool
     requires { sheet_shape sheet.now ≡ true }
-    ensures { (h t : List ℕ) → result ≡ root_built sheet.now (table h states.now cursors.now matched.now t) }
+    ensures { result ≡ root_built sheet.now (lent t.entry) }
 {
-    if !root_cursors(sheet, states, cursors) {
+    if !root_cursors(sheet, t.states, t.cursors) {
         return false;
     }
-    root_matched(states, matched)
+    root_matched(t.states, t.matched)
 }
 
 // Whether the words are a table of this sheet, which is in shape.
-fn fits_sheet(
-    sheet: &[u32],
-    head: &[u32],
-    states: &[u32],
-    cursors: &[u32],
-    matched: &[u32],
-    transitions: &[u32],
-) -> bool
+fn fits_sheet(sheet: &[u32], t: Table) -> bool
     requires { sheet_shape sheet.now ≡ true }
-    ensures { result ≡ table_shape sheet.now (table head.now states.now cursors.now matched.now transitions.now) }
+    ensures { result ≡ table_shape sheet.now (lent t.entry) }
 {
-    if !counts_fit(head, states, cursors, matched, transitions) {
+    if !counts_fit(t) {
         return false;
     }
-    if !states_fine(head, states, cursors, matched) {
+    if !states_fine(t) {
         return false;
     }
-    if !numbers_exist(sheet, head, cursors, matched) {
+    if !numbers_exist(sheet, t) {
         return false;
     }
-    if !transitions_fine(head, transitions) {
+    if !transitions_fine(t.head, t.transitions) {
         return false;
     }
-    root_built(sheet, states, cursors, matched)
+    root_built(sheet, t)
 }
 
 // Whether the sheet is in shape and the words are a table of it: 01's row 11.
-pub fn is_table(
-    sheet: &[u32],
-    head: &[u32],
-    states: &[u32],
-    cursors: &[u32],
-    matched: &[u32],
-    transitions: &[u32],
-) -> bool
-    ensures { result ≡ not (broken sheet.now (table head.now states.now cursors.now matched.now transitions.now)) }
+pub fn is_table(sheet: &[u32], t: Table) -> bool
+    ensures { result ≡ not (broken sheet.now (lent t.entry)) }
 {
     if !is_sheet(sheet) {
         return false;
     }
-    fits_sheet(sheet, head, states, cursors, matched, transitions)
+    fits_sheet(sheet, t)
 }

@@ -5,8 +5,8 @@ use Rattle.table.proofs.shape.numbers_exist.Goals as goal
 
 pub returns-then-not-cursors_exist : goal.returns-then-not-cursors_exist
 unfolding numbers_exist
-returns-then-not-cursors_exist c = λ s t. search (tests, all_read, rules)
+returns-then-not-cursors_exist c = search (tests, all_read, rules)
 
 pub returns : goal.returns
 unfolding numbers_exist
-returns c = λ s t. search (tests, all_read, rules)
+returns c = search (tests, all_read, rules)

@@ -5,8 +5,8 @@ use Rattle.table.proofs.shape.root_built.Goals as goal
 
 pub returns-then-not-root_cursors : goal.returns-then-not-root_cursors
 unfolding root_built
-returns-then-not-root_cursors c = λ h t. search (tests, rules)
+returns-then-not-root_cursors c = search (tests, rules)
 
 pub returns : goal.returns
 unfolding root_built
-returns c = λ h t. search (tests, rules)
+returns c = search (tests, rules)

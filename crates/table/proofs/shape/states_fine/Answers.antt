@@ -5,8 +5,8 @@ use Rattle.table.proofs.shape.states_fine.Goals as goal
 
 pub returns-then-not-each_state_fine : goal.returns-then-not-each_state_fine
 unfolding states_fine
-returns-then-not-each_state_fine c = λ t. search (tests, all_read, rules)
+returns-then-not-each_state_fine c = search (tests, all_read, rules)
 
 pub returns : goal.returns
 unfolding states_fine
-returns c = λ t. search (tests, all_read, rules)
+returns c = search (tests, all_read, rules)
