@@ -185,5 +185,12 @@ pub fn bench_is_table(
 ) -> bool
     ensures { result ≡ not (broken sheet.now (table head.now states.now cursors.now matched.now transitions.now)) }
 {
-    table::shape::is_table(sheet, head, states, cursors, matched, transitions)
+    let table = table::Table {
+        head,
+        states,
+        cursors,
+        matched,
+        transitions,
+    };
+    table::shape::is_table(sheet, table)
 }

@@ -13,6 +13,7 @@ use lent::Refusal;
 use lent::words::copy_into;
 use matcher::MatchState;
 use matcher::states::{check_state, not_a_state};
+use table::Table;
 
 // 11, 4 for the old state, 4 for the new one.
 fn check_pair(
@@ -27,7 +28,14 @@ fn check_pair(
 ) -> Result<(), Refusal>
     ensures { verdict_of result ≡ pair_verdict sheet.now (table head.now states.now cursors.now matched.now transitions.now) old.number old.stamp new.number new.stamp }
 {
-    check_state(sheet, head, states, cursors, matched, transitions, old)?;
+    let table = Table {
+        head,
+        states,
+        cursors,
+        matched,
+        transitions,
+    };
+    check_state(sheet, table, old)?;
     if not_a_state(head, new) {
         return Err(Refusal::NotAState);
     }

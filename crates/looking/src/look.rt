@@ -14,6 +14,7 @@ use matcher::MatchState;
 use matcher::states::check_state;
 use style::held::{kind_of, plain_of, resource_of};
 use style::{StyleValueKind, StyleValueRef};
+use table::Table;
 use winners::held::entry;
 use winners::{Found, Source};
 
@@ -30,7 +31,14 @@ pub fn winning_source_for_id(
 ) -> Result<Option<StyleSourceRef>, Refusal>
     ensures { winning_told result ≡ answered (state_verdict sheet.now (table head.now states.now cursors.now matched.now transitions.now) state.number state.stamp) (winner_told sheet.now (winner_in sheet.now (table head.now states.now cursors.now matched.now transitions.now) state.number property)) }
 {
-    check_state(sheet, head, states, cursors, matched, transitions, state)?;
+    let table = Table {
+        head,
+        states,
+        cursors,
+        matched,
+        transitions,
+    };
+    check_state(sheet, table, state)?;
     let best = held::winning_source(
         sheet,
         head,
@@ -64,7 +72,14 @@ fn winning_entry(
 ) -> Result<Option<Found>, Refusal>
     ensures { Shows sheet.now (table head.now states.now cursors.now matched.now transitions.now) state.number state.stamp property result }
 {
-    check_state(sheet, head, states, cursors, matched, transitions, state)?;
+    let table = Table {
+        head,
+        states,
+        cursors,
+        matched,
+        transitions,
+    };
+    check_state(sheet, table, state)?;
     let best = held::winning_source(
         sheet,
         head,
