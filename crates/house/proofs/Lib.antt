@@ -2,3 +2,4 @@ pub mod Walk
 pub mod Never
 pub mod Front
 pub mod Starting
+pub mod Stages

@@ -36,7 +36,7 @@ pub record Cut (bytes : List ℕ) : Type 0 where
 -- ---- what stands at the front: a record, the beginning of one, or a byte that is no kind
 
 abbrev pub found_of : Bool → Bool → Found
-found_of known whole = cond known (cond whole Whole Short) Unknown
+found_of is_kind all = cond is_kind (cond all Whole Short) Unknown
 
 -- ---- up to kind 8
 
@@ -92,7 +92,7 @@ pub record MadeSoFar (input : List ℕ) (m : Making) (w : List ℕ) (g : Group) 
   pub place : m.offset + m'.at < 18446744073709551616 → m'.offset ≡ m.offset + m'.at
   pub reaches : (room : ℕ) → m.offset + m'.at < 18446744073709551616
       → reached room (phase_of m w g) m.offset (take m'.at input) ≡ leads [] (phase_left room (phase_of m w g) m' w' g')
-  pub refused : state_in m'.stage ≡ 2 → (room : ℕ) → Refused room (phase_left room (phase_of m w g) m' w' g') m'.offset (drop m'.at input) verdict_in m'.stage
+  pub refused : state_in m'.stage ≡ 2 → (room : ℕ) → Refused room (phase_left room (phase_of m w g) m' w' g') m'.offset (drop m'.at input) (verdict_in m'.stage)
   pub quiet : (state_in m'.stage ≡ 2 → ⊥) → verdict_in m'.stage ≡ verdict_in m.stage
   pub still : m'.at ≡ 0 → Still m w g m' w' g'
   pub first : state_in m'.stage ≡ 0 → m'.at ≡ 0

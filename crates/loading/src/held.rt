@@ -3,17 +3,17 @@ ghost use Rattle.std.specs.Prelude.{◌≡◌, false, ◌≤◌, length, replica
 ghost use Rattle.sheet.specs.Layout.{SHEET-WORDS};
 ghost use Rattle.given.specs.Given.{Group, given};
 ghost use Rattle.gather.specs.Memory.{Roomy};
-ghost use Rattle.house.specs.Memory.{Before};
+ghost use Rattle.house.specs.Memory.{state_in, Before};
 ghost use Rattle.loading.specs.Turns.{Feeds, Reads};
 
-use gather::Filled;
-use house::Making;
+use gather::{Filled, OpenKind};
 use house::held::is_over;
+use house::{Making, Stage};
 use making::held::feed_sheet;
 use screen::held::{fill, shift};
 
 // How many bytes are at hand, how far the sheet has come, and whether its part of the input is over.
-#[derive(Clone, Copy)]
+#[derive(Clone, Copy, Debug, PartialEq, Eq)]
 pub struct Reading {
     pub have: usize,
     pub making: Making,
@@ -23,23 +23,13 @@ pub struct Reading {
 fn first() -> Reading
     ensures { (result.have ≡ 0) × ((g : Group) → Roomy g → Before result.making (replicate SHEET-WORDS 0) g) }
 {
-    let filled = Filled {
-        kind: 0,
-        origin: 0,
-        rules: 0,
-        steps: 0,
-        combinators: 0,
-        entries: 0,
-        ids: 0,
-    };
     let making = Making {
-        state: 0,
+        stage: Stage::Unbegun,
         ranking: 0,
         stamp: 0,
-        verdict: 0,
         offset: 0,
         at: 0,
-        filled,
+        filled: Filled::opened(OpenKind::Nothing),
     };
     Reading {
         have: 0,
@@ -118,16 +108,15 @@ fn turn_sheet(
 
 // Whether the sheet takes nothing more.
 fn is_done(s: Reading) -> bool
-    ensures { result ≡ false → s.making.state ≤ 1 }
+    ensures { result ≡ false → state_in s.making.stage ≤ 1 }
 {
-    let m = s.making;
-    if 2 <= m.state {
-        return true;
+    match s.making.stage {
+        Stage::Stopped(_) | Stage::Done => true,
+        Stage::Unbegun | Stage::Begun => s.over,
     }
-    s.over
 }
 
-// A proved loop has to end, and nothing says that the input does: the turns are counted down, from a number that no run uses up.
+// A proved loop has to end, and nothing says that the input does: the turns are counted, up to a number that no run reaches.
 pub fn read_sheet(
     input: &mut [u8],
     sheet: &mut [u32],
@@ -142,8 +131,7 @@ pub fn read_sheet(
     ensures { Reads (length input.old) result sheet.new (given rules.new steps.new combinators.new properties.new kinds.new numbers.new) }
 {
     let mut s = first();
-    let mut turns = u64::MAX;
-    while turns > 0 {
+    for _ in 0..u64::MAX {
         s = turn_sheet(
             input,
             s,
@@ -158,7 +146,6 @@ pub fn read_sheet(
         if is_done(s) {
             return s;
         }
-        turns -= 1;
     }
     s
 }

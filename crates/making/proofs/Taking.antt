@@ -188,10 +188,9 @@ gone m stage f = led m stage m.ranking m.stamp f
 module _ (m : Making) (w : List ℕ) (g : Group) (b : Before m w g) (z : state_in m.stage ≡ 1) (r : Record) (w' : List ℕ) (g' : Group) where
   go_refused : (e : Refusal) → Takes w m.filled g r (Err e) w' g' → (m' : Making) → m' ≡ refusing m e → Took m w g r m' w' g'
   go_refused e k m' q =
-      let n : eqb (number_of e) 0 ≡ false = ne_eqb (number_of e) 0 (refusal_number e) in
-      let same : w' ≡ w = k.sheet ∙ rw (← k.answer, n) in
+      let same : w' ≡ w = k.sheet ∙ rw (← k.answer, ne_eqb (number_of e) 0 (refusal_number e)) in
       rw (q, same, (k.keeps (refusal_number e)).1) (took_refused m w g r e b.sound.room (λ room.
-      rw (phase_making m w g z) (unfold outcome making_outcome in rw (← k.answer, n))))
+      rw (phase_making m w g z) (unfold outcome making_outcome in rw (← k.answer, ne_eqb (number_of e) 0 (refusal_number e)))))
 
   module _ (f : Filled) (k : Takes w m.filled g r (Ok f) w' g') where
     zero_verdict : making_verdict w (open_of m.filled g) r ≡ 0

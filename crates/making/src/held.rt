@@ -6,8 +6,8 @@ ghost use Rattle.house.specs.Memory.{state_in, Before, FedSheet};
 ghost use Rattle.making.specs.Taking.{placed, refusing, Took, Past, Ahead, ItemAt, Opens, GoesOn};
 
 use gather::Filled;
-use house::{Found, Making, Stage};
 use house::held::{front, further};
+use house::{Found, Making, Stage};
 use lent::Refusal;
 use lent::words::copy_into;
 use records::Record;

@@ -128,7 +128,7 @@ fn say_rest(out: &mut [u8], s: Walking)
     }
 }
 
-// The turns are counted down as `loading` counts its own.
+// The turns are counted as `loading` counts its own.
 fn walk(
     input: &mut [u8],
     start: Walking,
@@ -145,8 +145,7 @@ fn walk(
     requires ready { Ready sheet.now (table head.old states.old cursors.old matched.old transitions.old) items.old }
 {
     let mut s = start;
-    let mut turns = u64::MAX;
-    while turns > 0 {
+    for _ in 0..u64::MAX {
         s = turn_walk(
             input,
             s,
@@ -163,7 +162,6 @@ fn walk(
             say_rest(out, s);
             return;
         }
-        turns -= 1;
     }
 }
 

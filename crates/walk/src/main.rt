@@ -3,25 +3,23 @@
 
 ghost use Rattle.std.specs.Prelude.{◌≡◌, true, ◌≤◌, length};
 ghost use Rattle.sheet.specs.Shape.{sheet_shape};
+ghost use Rattle.house.specs.Memory.{state_in};
 
+use house::Stage;
 use loading::held::{Reading, read_sheet};
 use touring::held::{answer, say_refused};
 
 // What the sheet's part of the input leads to.
 fn go_on(input: &mut [u8], s: Reading, sheet: &[u32], out: &mut [u8])
     requires have_in_bounds { (s.have ≤ length input.old) × (length out.old ≡ 131072) }
-    requires sheet_value { s.making.state ≡ 3 → (sheet_shape sheet.now ≡ true) × (s.making.ranking ≤ 1) }
+    requires sheet_value { state_in s.making.stage ≡ 3 → (sheet_shape sheet.now ≡ true) × (s.making.ranking ≤ 1) }
 {
     let m = s.making;
-    if m.state == 3 {
-        answer(input, s.have, m, sheet, out);
-        return;
+    match m.stage {
+        Stage::Done => answer(input, s.have, m, sheet, out),
+        Stage::Stopped(refusal) => say_refused(out, refusal.number(), m.offset),
+        Stage::Unbegun | Stage::Begun => say_refused(out, 10, m.offset),
     }
-    if m.state == 2 {
-        say_refused(out, m.verdict, m.offset);
-        return;
-    }
-    say_refused(out, 10, m.offset);
 }
 
 fn main() {

@@ -1,10 +1,11 @@
-use mathlib.Core.Path.{refl}
+use borrow.Author.Rules.{rules}
+use mathlib.Core.Path.{◌≡◌, refl}
 use Rattle.making.proofs.held.end.Goals as goal
 
 -- `making::held::end` meets its contract. Assumes nothing.
 
-pub returns-then-found-eq2 : goal.returns-then-found-eq2
-returns-then-found-eq2 c = (λ _. c.refused.ensures, λ n. absurd (n c.if-found-eq2.true))
+pub returns-in-Unknown : goal.returns-in-Unknown
+returns-in-Unknown c = (λ _. c.refused.ensures, λ n. absurd (n c.in-Unknown.is))
 
-pub returns : goal.returns
-returns c = (λ e. absurd (c.if-found-eq2.false e), λ _. refl)
+pub returns-in_default : goal.returns-in_default
+returns-in_default c = (λ e. absurd (c.in_default.not-Unknown e), λ _. refl)

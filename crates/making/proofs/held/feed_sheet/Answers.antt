@@ -11,13 +11,13 @@ loop-found-init c =
 
 pub item_at-item-requires : goal.item_at-item-requires
 item_at-item-requires c =
-    let t = c.loop-found.invariant.0.ahead.takes c.loop-found-test.true in
+    let t = c.loop-found.invariant.0.ahead.takes c.in-Whole.is in
     (t.1, t.2)
 
 pub take-taken-requires : goal.take-taken-requires
 take-taken-requires c =
     let o = c.open-m.ensures _ c.requires in
-    let b = turn_before o c.loop-found.invariant.0 c.loop-found-test.true in
+    let b = turn_before o c.loop-found.invariant.0 c.in-Whole.is in
     record { sheet_value = b.shape; sound = b.sound; narrow = c.item_at-item.ensures.narrow }
 
 pub go_on-m-requires : goal.go_on-m-requires
@@ -28,14 +28,14 @@ go_on-m-requires c =
 pub loop-found-smaller : goal.loop-found-smaller
 loop-found-smaller c =
     let o = c.open-m.ensures _ c.requires in
-    turn_falls o c.loop-found.invariant.0 c.loop-found-test.true c.item_at-item.ensures c.take-taken.ensures c.go_on-m.ensures
+    turn_falls o c.loop-found.invariant.0 c.in-Whole.is c.item_at-item.ensures c.take-taken.ensures c.go_on-m.ensures
 
 pub loop-found-preserved : goal.loop-found-preserved
 loop-found-preserved c =
     let o = c.open-m.ensures _ c.requires in
     let i = c.loop-found.invariant in (
-      turn_one o i.0 c.loop-found-test.true c.item_at-item.ensures c.take-taken.ensures c.go_on-m.ensures c.ahead-found-in-loop-found.ensures,
-      c.sheet-in-loop-found-1.given ∙ i.1,
+      turn_one o i.0 c.in-Whole.is c.item_at-item.ensures c.take-taken.ensures c.go_on-m.ensures c.ahead-found-in-Whole.ensures,
+      c.sheet-in-Whole-1.given ∙ i.1,
       c.rules-1.given ∙ i.2,
       c.steps-1.given ∙ i.3,
       c.combinators-1.given ∙ i.4,
@@ -47,4 +47,4 @@ loop-found-preserved c =
 pub returns : goal.returns
 returns c =
     let o = c.open-m.ensures _ c.requires in
-    turns_end o c.loop-found.invariant.0 c.loop-found-test.false c.end.ensures
+    turns_end o c.loop-found.invariant.0 c.in_default.not-Whole c.end.ensures

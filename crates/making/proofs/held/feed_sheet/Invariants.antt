@@ -1,3 +1,4 @@
+use Rattle.house.specs.Memory.{state_in}
 use Prim.Native.Nat.{◌+◌, ◌-◌, ◌*◌}
 use mathlib.Core.Path.{◌≡◌}
 use lib.ListN.{length}
