@@ -1,4 +1,4 @@
-use mathlib.Core.Path.{◌≡◌, ap, ◌∙◌, sym}
+use mathlib.Core.Path.{ap, ◌∙◌, sym}
 use Rattle.theory.proofs.Ordered.{sign}
 use Rattle.keys.proofs.Order.{key_order}
 use Rattle.keys.proofs.CascadeEntryKey.compare.Goals as goal
