@@ -1,4 +1,4 @@
-// For callers that hold the sheet to its shape already.
+// For callers that hold the sheet to its shape already. They lend plain words, as the pushes write them, so the shape is asked for here and is no type's.
 ghost use Rattle.std.specs.Prelude.{◌≡◌, true, ◌≤◌, ◌<◌};
 ghost use Rattle.selector.specs.Rows.{row_at};
 ghost use Rattle.selector.specs.Weighing.{Counted, Summed};
