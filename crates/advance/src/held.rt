@@ -17,7 +17,7 @@ use sheet::layout;
 use sheet::shape::step_place;
 
 // How many cursors and how many rules.
-#[derive(Clone, Copy)]
+#[derive(Clone, Copy, Debug, PartialEq, Eq)]
 pub struct Counts {
     pub cursors: usize,
     pub matched: usize,
@@ -269,6 +269,7 @@ pub fn advance(
             matched: 0,
         },
     };
+    // A turn takes from one list or from both, so that neither's index counts the turns.
     while goes_on(parent, root, done) {
         done = turn(sheet, parent, root, subject, next, listed, done);
     }
