@@ -51,6 +51,7 @@ fn listed(out: &mut [u8], at: usize, list: &[u32]) -> usize
     text(out, c, b"\n")
 }
 
+// By its number: any may be said.
 pub fn refused(out: &mut [u8], at: usize, verdict: u32, offset: u64) -> usize
     requires { Room at out.old }
     ensures { Said (refused_line verdict offset) out.old at result out.new }
