@@ -15,6 +15,7 @@ use crate::REFUSED;
 use crate::winning::{NOBODY, direct};
 use lent::words::{copy_into, wide};
 use settle::Settled;
+use sheet::Sheet;
 use winners::Best;
 
 fn number_of(settled: Settled) -> u32
@@ -42,7 +43,7 @@ pub fn bench_held_enter(
     ensures { EntersHeld sheet.now (table head.old states.old cursors.old matched.old transitions.old) parent row.now result (table head.new states.new cursors.new matched.new transitions.new) }
 {
     let settled = entering::held::enter_subject(
-        sheet,
+        Sheet { words: sheet },
         head,
         states,
         cursors,
@@ -89,7 +90,7 @@ pub fn bench_held_winner(
     ensures { result ≡ place_number (winner_in sheet.now (table head.now states.now cursors.now matched.now transitions.now) number property) }
 {
     let best = looking::held::winning_source(
-        sheet,
+        Sheet { words: sheet },
         head,
         states,
         cursors,
@@ -118,7 +119,7 @@ pub fn bench_held_changed(
     ensures { Holds (changed_in sheet.now (table head.now states.now cursors.now matched.now transitions.now) old new) into.old result into.new }
 {
     cascade::held::changed_properties(
-        sheet,
+        Sheet { words: sheet },
         head,
         states,
         cursors,

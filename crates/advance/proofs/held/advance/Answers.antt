@@ -6,7 +6,7 @@ pub loop-next-init : goal.loop-next-init
 loop-next-init c = search (turns_start, rules)
 
 pub turn-done-requires : goal.turn-done-requires
-turn-done-requires c = record { sheet_value = search rules; subject_value = search rules; walks = search rules; root_value = search (goes_true, rules) }
+turn-done-requires c = record { subject_value = search rules; walks = search rules; root_value = search (goes_true, rules) }
 
 pub loop-next-smaller : goal.loop-next-smaller
 loop-next-smaller c = search (turns_less, rules)
