@@ -53,7 +53,7 @@ fn check_style_sizes(sheet: &[u32], entries: EntryLists, n: usize) -> Result<(),
     Ok(())
 }
 
-// 6 (origin), 2, 6, 1, 7, of a sheet in shape.
+// 6 (origin), 2, 6, 1, 7, of a sheet in shape: apart from `check_style`, so that a record with many groups tests its sheet once.
 pub fn check_style_held(
     sheet: Sheet<'_>,
     origin: u32,

@@ -8,37 +8,25 @@ use lib.Dec.{eqb}
 use lib.ListN.{get_or, length}
 use lib.Seq.{sets}
 use borrow.Author.Tests.{ne_eqb}
+use Rattle.std.specs.Prelude.{Result, Ok, Err, Option as Optional, Some, None}
+use Rattle.lent.specs.declared.Refusal.{Refusal}
 use Rattle.lent.specs.Refusals.{answered}
 use Rattle.winners.specs.Winners.{Place, style, rule}
 use Rattle.winners.specs.Best.{place_in, Stands}
 use Rattle.winners.specs.declared.Best.{Best}
-use Rattle.keys.specs.declared.CascadeEntryKey.{CascadeEntryKey}
-use Rattle.changeset.specs.declared.Changing.{Changing}
 use Rattle.changeset.specs.Sets.{Lists}
 use Rattle.lent.proofs.Answers.{accepted, refused}
-use Rattle.looking.specs.declared.Winning.{Winning}
+use Rattle.looking.specs.declared.StyleSourceRef.{StyleSourceRef}
+use Rattle.looking.specs.declared.StyleSourceRef.TheVariants as source
 use Rattle.looking.specs.Answers.{winning_told, winner_told}
 use Rattle.bench.specs.Numbers.{REFUSED, Outcome}
 use Rattle.bench.proofs.Laws.{outcome_yes, outcome_no}
 use Rattle.bench.specs.Winners.{NOBODY, DIRECT, place_number, best_number, winning_number, changing_number}
 
--- ---- a direct style
-
-pub direct_best : (b : Best) (d : ℕ) (k : CascadeEntryKey) (r : ℕ) → b ≡ Best.Style d k → r ≡ DIRECT + d → r ≡ best_number b
-direct_best b d k r f e = e ∙ sym (ap best_number f)
-
-pub direct_winning : (a : Winning) (d source r : ℕ) → a ≡ Winning.Direct d source → r ≡ DIRECT + d → r ≡ winning_number a
-direct_winning a d source r f e = e ∙ sym (ap winning_number f)
-
 -- ---- the core's winner
 
-best_place : (b : Best) → best_number b ≡ place_number (place_in b)
-best_place Best.Nobody = refl
-best_place (Best.Style d k) = refl
-best_place (Best.Rule r k) = refl
-
-pub best_is : {w : List ℕ} {ranking p : ℕ} {o : Option Place} (b : Best) (r : ℕ) → Stands w ranking p o b → r ≡ best_number b → r ≡ place_number o
-best_is b r s e = e ∙ best_place b ∙ ap place_number s.place
+pub best_is : {w : List ℕ} {ranking p : ℕ} {o : Option Place} (b : Optional Best) (r : ℕ) → Stands w ranking p o b → r ≡ best_number b → r ≡ place_number o
+best_is b r s e = e ∙ ap place_number s.place
 
 -- ---- the public call's winner
 
@@ -69,22 +57,22 @@ module _ (w : List ℕ) (v : ℕ) (o : Option Place) (r : ℕ) where
   told_no h e = rw (ne_eqb v 0 h) e
 
 module _ (w : List ℕ) (v : ℕ) where
-  pub winning_is : (o : Option Place) (a : Winning) (r : ℕ) → winning_told a ≡ answered v (winner_told w o) → r ≡ winning_number a → r ≡ cond (eqb v 0) (place_number o) REFUSED
+  pub winning_is : (o : Option Place) (a : Result (Optional StyleSourceRef) Refusal) (r : ℕ) → winning_told a ≡ answered v (winner_told w o) → r ≡ winning_number a → r ≡ cond (eqb v 0) (place_number o) REFUSED
   unfolding by_told by_kind
-  winning_is o Winning.Nobody r u e = told_yes w v o r (0 ∷ []) u e
-  winning_is o (Winning.Direct d source) r u e = told_yes w v o r (1 ∷ d ∷ source ∷ []) u e
-  winning_is o (Winning.Rule k source) r u e = told_yes w v o r (2 ∷ k ∷ source ∷ []) u e
-  winning_is none (Winning.Refused x) r u e = told_no w v none r (refused v x _ u) e
-  winning_is (some (style d)) (Winning.Refused x) r u e = told_no w v (some (style d)) r (refused v x _ u) e
-  winning_is (some (rule k)) (Winning.Refused x) r u e = told_no w v (some (rule k)) r (refused v x _ u) e
+  winning_is o (Ok None) r u e = told_yes w v o r (0 ∷ []) u e
+  winning_is o (Ok (Some (source.Direct d index))) r u e = told_yes w v o r (1 ∷ d ∷ index ∷ []) u e
+  winning_is o (Ok (Some (source.Rule k index))) r u e = told_yes w v o r (2 ∷ k ∷ index ∷ []) u e
+  winning_is none (Err x) r u e = told_no w v none r (refused v x _ u) e
+  winning_is (some (style d)) (Err x) r u e = told_no w v (some (style d)) r (refused v x _ u) e
+  winning_is (some (rule k)) (Err x) r u e = told_no w v (some (rule k)) r (refused v x _ u) e
 
 -- ---- the public call's changes
 
-pub changing_is : (v : ℕ) (list before : List ℕ) (a : Changing) (after : List ℕ) (r : ℕ) → Lists v list before a after → r ≡ changing_number a
+pub changing_is : (v : ℕ) (list before : List ℕ) (a : Result ℕ Refusal) (after : List ℕ) (r : ℕ) → Lists v list before a after → r ≡ changing_number a
     → Outcome v (length list) before (sets before 0 list) r after
-changing_is v list before (Changing.Listed n) after r u e =
+changing_is v list before (Ok n) after r u e =
     let z = accepted v (n ∷ []) _ u.answer in
     let q : 0 ∷ n ∷ [] ≡ 0 ∷ length list ∷ [] = rw z at u.answer in
     outcome_yes v (length list) before (sets before 0 list) after u.memory r z (e ∙ ap (λ (l : List ℕ). get_or l 1 0) q)
-changing_is v list before (Changing.Refused x) after r u e =
+changing_is v list before (Err x) after r u e =
     outcome_no v (length list) before (sets before 0 list) after u.memory r (refused v x _ u.answer) e

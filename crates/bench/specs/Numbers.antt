@@ -1,10 +1,8 @@
 -- The answers as one number, where one stands for every refusal. Assumes nothing.
-use Rattle.std.specs.Prelude.{◌≡◌, cond, List, [], ℕ, eqb, length}
+use Rattle.std.specs.Prelude.{◌≡◌, cond, List, [], ℕ, eqb, length, Result, Ok, Err, Option, Some, None, ⊤}
 use Rattle.std.proofs.lemmas.List.Edits.{sets}
-use Rattle.builder.specs.declared.Pushing.{Pushing}
-use Rattle.settle.specs.declared.Settled.{Settled}
-use Rattle.building.specs.declared.Building.{Building}
-use Rattle.entering.specs.declared.Entering.{Entering}
+use Rattle.lent.specs.declared.Refusal.{Refusal}
+use Rattle.matcher.specs.declared.MatchState.{MatchState}
 use Rattle.table.specs.Tables.{Table, matched_at}
 use Rattle.table.specs.Entering.{built, lacks_room, child_of, entered}
 use Rattle.table.specs.Calls.{state_verdict, build_verdict, enter_verdict}
@@ -13,21 +11,18 @@ use Rattle.table.specs.Calls.{state_verdict, build_verdict, enter_verdict}
 abbrev pub REFUSED : ℕ
 REFUSED = 65536
 
-abbrev pub push_number : Pushing → ℕ
-push_number Pushing.Pushed = 0
-push_number (Pushing.Refused r) = REFUSED
+-- of a push and of a build
+abbrev pub done_number : Result ⊤ Refusal → ℕ
+done_number (Ok u) = 0
+done_number (Err r) = REFUSED
 
-abbrev pub build_number : Building → ℕ
-build_number Building.Built = 0
-build_number (Building.Refused r) = REFUSED
+abbrev pub enter_number : Result MatchState Refusal → ℕ
+enter_number (Ok s) = s.number
+enter_number (Err r) = REFUSED
 
-abbrev pub enter_number : Entering → ℕ
-enter_number (Entering.Entered s) = s.number
-enter_number (Entering.Refused r) = REFUSED
-
-abbrev pub settled_number : Settled → ℕ
-settled_number (Settled.At n) = n
-settled_number Settled.NoRoom = REFUSED
+abbrev pub settled_number : Option ℕ → ℕ
+settled_number (Some n) = n
+settled_number None = REFUSED
 
 -- `verdict` is the refusal's number, 0 for none. A refused call changes no word; an accepted one answers `number` and leaves `accepted`
 pub record Outcome {M : Type 0} (verdict number : ℕ) (before accepted : M) (r : ℕ) (after : M) : Type 0 where

@@ -1,13 +1,15 @@
 -- Winners and changes as one number, where one stands for every refusal. Assumes nothing.
-use Rattle.std.specs.Prelude.{cond, List, ℕ, ◌+◌, eqb, length}
+use Rattle.std.specs.Prelude.{cond, List, ℕ, ◌+◌, eqb, length, Result, Ok, Err, Option as Optional, Some, None}
 use Rattle.std.proofs.Math.Option.{Option, none, some}
 use Rattle.std.proofs.lemmas.List.Edits.{sets}
+use Rattle.lent.specs.declared.Refusal.{Refusal}
 use Rattle.table.specs.Tables.{Table}
 use Rattle.table.specs.Calls.{state_verdict}
 use Rattle.winners.specs.Winners.{Place, style, rule}
+use Rattle.winners.specs.Best.{place_in}
 use Rattle.winners.specs.declared.Best.{Best}
-use Rattle.changeset.specs.declared.Changing.{Changing}
-use Rattle.looking.specs.declared.Winning.{Winning}
+use Rattle.looking.specs.declared.StyleSourceRef.{StyleSourceRef}
+use Rattle.looking.specs.declared.StyleSourceRef.TheVariants as source
 use Rattle.looking.specs.Calls.{winner_in}
 use Rattle.cascade.specs.Calls.{changed_in, changed_verdict}
 use Rattle.bench.specs.Numbers.{REFUSED, Outcome}
@@ -25,20 +27,18 @@ place_number none = NOBODY
 place_number (some (style d)) = DIRECT + d
 place_number (some (rule r)) = r
 
-abbrev pub best_number : Best → ℕ
-best_number Best.Nobody = NOBODY
-best_number (Best.Style d k) = DIRECT + d
-best_number (Best.Rule r k) = r
+abbrev pub best_number : Optional Best → ℕ
+best_number b = place_number (place_in b)
 
-abbrev pub winning_number : Winning → ℕ
-winning_number Winning.Nobody = NOBODY
-winning_number (Winning.Direct d source) = DIRECT + d
-winning_number (Winning.Rule r source) = r
-winning_number (Winning.Refused r) = REFUSED
+abbrev pub winning_number : Result (Optional StyleSourceRef) Refusal → ℕ
+winning_number (Ok None) = NOBODY
+winning_number (Ok (Some (source.Direct d index))) = DIRECT + d
+winning_number (Ok (Some (source.Rule r index))) = r
+winning_number (Err r) = REFUSED
 
-abbrev pub changing_number : Changing → ℕ
-changing_number (Changing.Listed n) = n
-changing_number (Changing.Refused r) = REFUSED
+abbrev pub changing_number : Result ℕ Refusal → ℕ
+changing_number (Ok n) = n
+changing_number (Err r) = REFUSED
 
 module _ (w : List ℕ) (t : Table) where
   -- the winner of a property in a state, unless the state is refused

@@ -14,17 +14,13 @@ ghost use Rattle.bench.specs.Winners.{best_number, place_number};
 use crate::REFUSED;
 use crate::winning::{NOBODY, direct};
 use lent::words::{copy_into, wide};
-use settle::Settled;
 use sheet::Sheet;
-use winners::Best;
+use winners::{Best, Source};
 
-fn number_of(settled: Settled) -> u32
+fn number_of(settled: Option<u32>) -> u32
     ensures { result ≡ settled_number settled }
 {
-    match settled {
-        Settled::At(number) => number,
-        Settled::NoRoom => REFUSED,
-    }
+    settled.unwrap_or(REFUSED)
 }
 
 // The number of the child.
@@ -64,13 +60,15 @@ pub fn bench_held_matching(states: &[u32], matched: &[u32], number: u32, out: &m
     list.len()
 }
 
-fn best_number(best: Best) -> usize
+fn best_number(best: Option<Best>) -> usize
     ensures { result ≡ best_number best }
 {
-    match best {
-        Best::Nobody => NOBODY,
-        Best::Style(d, _) => direct(d),
-        Best::Rule(r, _) => wide(r),
+    let Some(best) = best else {
+        return NOBODY;
+    };
+    match best.source {
+        Source::Style(d) => direct(d),
+        Source::Rule(r) => wide(r),
     }
 }
 

@@ -9,11 +9,9 @@ ghost use Rattle.given.specs.Given.{given};
 ghost use Rattle.given.specs.Pushing.{empty_verdict, group_verdict, pushed_group, style_push_verdict, pushed_style};
 ghost use Rattle.table.specs.Tables.{table};
 ghost use Rattle.table.specs.Calls.{broken};
-ghost use Rattle.bench.specs.Numbers.{push_number, build_number, enter_number, Outcome, Builds, Enters, rules_of, Copied};
+ghost use Rattle.bench.specs.Numbers.{done_number, enter_number, Outcome, Builds, Enters, rules_of, Copied};
 
-use builder::Pushing;
-use building::Building;
-use entering::Entering;
+use lent::Refusal;
 use lent::words::copy_into;
 use matcher::MatchState;
 use typed::SelectorInputs;
@@ -24,30 +22,18 @@ pub mod winning;
 // What stands for every refusal: no state has this number.
 pub const REFUSED: u32 = 65536;
 
-fn told(pushing: Pushing) -> u32
-    ensures { result ≡ push_number pushing }
+fn done(answer: Result<(), Refusal>) -> u32
+    ensures { result ≡ done_number answer }
 {
-    match pushing {
-        Pushing::Pushed => 0,
-        Pushing::Refused(_) => REFUSED,
-    }
+    if answer.is_ok() { 0 } else { REFUSED }
 }
 
-fn built(building: Building) -> u32
-    ensures { result ≡ build_number building }
-{
-    match building {
-        Building::Built => 0,
-        Building::Refused(_) => REFUSED,
-    }
-}
-
-fn entered(entering: Entering) -> u32
+fn entered(entering: Result<MatchState, Refusal>) -> u32
     ensures { result ≡ enter_number entering }
 {
     match entering {
-        Entering::Entered(state) => state.number,
-        Entering::Refused(_) => REFUSED,
+        Ok(state) => state.number,
+        Err(_) => REFUSED,
     }
 }
 
@@ -55,7 +41,7 @@ pub fn bench_new(sheet: &mut [u32]) -> u32
     ensures { Outcome (empty_verdict sheet.old) 0 sheet.old (emptied sheet.old) result sheet.new }
 {
     let pushing = builder::new(sheet);
-    told(pushing)
+    done(pushing)
 }
 
 pub fn bench_push_style(
@@ -69,7 +55,7 @@ pub fn bench_push_style(
     ensures { Outcome (style_push_verdict sheet.old origin properties.now kinds.now numbers.now count) 0 sheet.old (pushed_style sheet.old origin properties.now kinds.now numbers.now count) result sheet.new }
 {
     let pushing = builder::push_style(sheet, origin, properties, kinds, numbers, count);
-    told(pushing)
+    done(pushing)
 }
 
 pub fn bench_push_rules(
@@ -96,7 +82,7 @@ pub fn bench_push_rules(
         kinds,
         numbers,
     );
-    told(pushing)
+    done(pushing)
 }
 
 pub fn bench_build(
@@ -109,7 +95,7 @@ pub fn bench_build(
     ensures { (m t : List ℕ) → Builds sheet.now stamp (table head.old states.old cursors.old m t) result (table head.new states.new cursors.new m t) }
 {
     let building = building::build(sheet, stamp, 0, head, states, cursors);
-    built(building)
+    done(building)
 }
 
 // The number of the child.

@@ -4,9 +4,9 @@ ghost use Rattle.table.specs.Tables.{table};
 ghost use Rattle.bench.specs.Winners.{winning_number, changing_number, winner_number, Changes};
 
 use crate::REFUSED;
-use changeset::Changing;
+use lent::Refusal;
 use lent::words::wide;
-use looking::Winning;
+use looking::StyleSourceRef;
 use matcher::MatchState;
 
 // What stands for no source: no rule has this number.
@@ -21,24 +21,21 @@ pub fn direct(number: u32) -> usize
     DIRECT + wide(number)
 }
 
-fn winning_number(winning: Winning) -> usize
+fn winning_number(winning: Result<Option<StyleSourceRef>, Refusal>) -> usize
     ensures { result ≡ winning_number winning }
 {
     match winning {
-        Winning::Nobody => NOBODY,
-        Winning::Direct(d, _) => direct(d),
-        Winning::Rule(r, _) => wide(r),
-        Winning::Refused(_) => wide(REFUSED),
+        Ok(None) => NOBODY,
+        Ok(Some(StyleSourceRef::Direct(d, _))) => direct(d),
+        Ok(Some(StyleSourceRef::Rule(r, _))) => wide(r),
+        Err(_) => wide(REFUSED),
     }
 }
 
-fn changing_number(changing: Changing) -> usize
+fn changing_number(changing: Result<usize, Refusal>) -> usize
     ensures { result ≡ changing_number changing }
 {
-    match changing {
-        Changing::Listed(n) => n,
-        Changing::Refused(_) => wide(REFUSED),
-    }
+    changing.unwrap_or(wide(REFUSED))
 }
 
 // The source that wins a property in a state.

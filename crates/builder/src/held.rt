@@ -1,4 +1,5 @@
 // For callers that hold the sheet to its shape already: pushes without that test.
+// Twins of the public pushes, which promise an answer on any words and so test them; a record with many groups tests its sheet once.
 ghost use Rattle.std.specs.Prelude.{◌≡◌, true};
 ghost use Rattle.lent.specs.Refusals.{verdict_of};
 ghost use Rattle.sheet.specs.Shape.{sheet_shape};

@@ -7,7 +7,6 @@ use native.Mathlib.Omega.{arith}
 use lib.ListN.{get_or}
 use mir.Syntax.{w16}
 use mir.Val.{Fits}
-use borrow.Author.Tests.{ne_eqb}
 use Rattle.theory.specs.Lists.{inserted, only, sort, spread}
 use Rattle.theory.specs.Sizes
 use Rattle.theory.proofs.Lists.{flat_map_append, select_ascending}

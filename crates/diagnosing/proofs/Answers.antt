@@ -1,5 +1,5 @@
 -- What `diagnose_path` answers, by each way through the code. Assumes nothing.
-use mathlib.Core.Path.{◌≡◌, ap, ◌∙◌, refl}
+use mathlib.Core.Path.{◌≡◌, ap}
 use mathlib.Core.List.{List}
 use Prim.Native.Nat.{ℕ, ◌-◌}
 use borrow.Author.Tests.{ne_eqb}
@@ -10,7 +10,7 @@ use Rattle.selector.specs.declared.SelectorMismatch.TheVariants.{EmptySelectorWi
 use Rattle.selector.specs.Checks.{path_verdict}
 use Rattle.selector.specs.Matching.{hit_at, far_at}
 use Rattle.selector.specs.Diagnosing.{Diagnosis, Fits, judge, diagnose, diagnosis_told, diagnosis_of}
-use Rattle.matching.proofs.Answers.{more, refused, told_is, accepted}
+use Rattle.matching.proofs.Answers.{more, refused, told_is}
 
 module _ (steps : List ℕ) (n : ℕ) (combinators : List ℕ) (c : ℕ) (path : List ℕ) (m : ℕ) where
   pub diagnosis_refused : (r : Refusal) → number_of r ≡ path_verdict steps n combinators c path m → told r ≡ diagnosis_of steps n combinators c path m

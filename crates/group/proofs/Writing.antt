@@ -136,22 +136,22 @@ pub rule_start : {w : List ℕ} {s : ℕ} {rules : List ℕ} {n : ℕ} {steps co
 rule_start = unfold rules_given flat_map sum_below in (record { within = omega arith; size = refl; steps_behind = refl; ties_behind = refl; steps_few = omega arith; ties_few = omega arith; laid = refl })
 
 module _ {w : List ℕ} {s : ℕ} {rules : List ℕ} {n : ℕ} {steps combinators : List ℕ} {p c k : ℕ} {x : List ℕ} (r : Ruling w s rules n steps combinators p c k x)
-    (f : (s + 8 * n ≤ 2048) × SelectorsFit (given rules steps combinators [] [] []) n) (h : k < n) where
+    (f : SelectorsFit (given rules steps combinators [] [] []) n) (h : k < n) where
   abbrev g : Group
   g = given rules steps combinators [] [] []
 
   pub count_few : (v count : ℕ) → v ≡ get_or rules (3 * k) 0 → count ≡ v → count ≤ 8
-  count_few v count e q = omega (arith, (f.1 k h).few)
+  count_few v count e q = omega (arith, (f k h).few)
 
   pub ties_few : (v count : ℕ) → v ≡ get_or rules (3 * k + 1) 0 → count ≡ v → count ≤ 8
-  ties_few v count e q = omega (arith, (f.1 k h).ties)
+  ties_few v count e q = omega (arith, (f k h).ties)
 
   module _ (v count : ℕ) (e : v ≡ get_or rules (3 * k) 0) (q : count ≡ v) (l m : List ℕ) (a : l ≡ drop (22 * p) steps) (b : m ≡ drop c combinators) where
     pub selector_rows : all_below count (λ (i : ℕ). row_fits 8 l (22 * i)) ≡ true
-    selector_rows = rw (q, e, a, r.steps_behind) (f.1 k h).rows
+    selector_rows = rw (q, e, a, r.steps_behind) (f k h).rows
 
     pub selector_codes : (i : ℕ) → i < count → code_before m i ≤ 1
-    selector_codes = rw (q, e, b, r.ties_behind) (f.1 k h).codes
+    selector_codes = rw (q, e, b, r.ties_behind) (f k h).codes
 
     pub rule_more : (u t : ℕ) (y : List ℕ) → u ≡ get_or rules (3 * k + 1) 0 → t ≡ u
         → y ≡ sets x (Layout.step_place (s + p)) (flat_map step_words (selector_of l m count))
@@ -185,31 +185,31 @@ pub record Rowing (w : List ℕ) (r : ℕ) (rules : List ℕ) (n origin source s
   pub entries_few : b ≤ e + 32 * k
   pub laid : x ≡ sets w (Layout.RULE-ORIGIN + Layout.RULE-WORDS * r) (rule_words s e (rules_given origin source (given rules [] [] [] [] []) k))
 
-pub row_start : {w : List ℕ} {r : ℕ} {rules : List ℕ} {n origin source s e : ℕ} → Rowing w r rules n origin source s e s e 0 w
-row_start = unfold rules_given rule_words sum_below in (record { within = omega arith; size = refl; steps_end = omega arith; entries_end = omega arith; steps_few = omega arith; entries_few = omega arith; laid = refl })
+pub row_start : {w : List ℕ} {r : ℕ} {rules : List ℕ} {n origin source s e : ℕ} (a b : ℕ) → a ≡ s → b ≡ e → Rowing w r rules n origin source s e a b 0 w
+row_start a b p q = unfold rules_given rule_words sum_below in (record { within = omega arith; size = refl; steps_end = omega arith; entries_end = omega arith; steps_few = omega arith; entries_few = omega arith; laid = refl })
 
 module _ {w : List ℕ} {r : ℕ} {rules : List ℕ} {n origin source s e a b k : ℕ} {x : List ℕ} (i : Rowing w r rules n origin source s e a b k x)
-    (f : (r + n ≤ 256) × (s ≤ 2048) × (e ≤ 4096) × ((j : ℕ) → j < n → get_or rules (3 * j) 0 ≤ 8) × EntriesFit (given rules [] [] [] [] []) n) (h : k < n) where
+    {steps combinators : List ℕ} (room : r + n ≤ 256) (steps_room : s ≤ 2048) (entries_room : e ≤ 4096) (fits : SelectorsFit (given rules steps combinators [] [] []) n) (listed : EntriesFit (given rules [] [] [] [] []) n) (h : k < n) where
   pub row_steps : (v t : ℕ) → v ≡ get_or rules (3 * k) 0 → t ≡ v → t ≤ 8
-  row_steps v t p q = omega (arith, f.3 k h)
+  row_steps v t p q = omega (arith, (fits k h).few)
 
   pub row_entries : (v t : ℕ) → v ≡ get_or rules (3 * k + 2) 0 → t ≡ v → t ≤ 32
-  row_entries v t p q = omega (arith, f.4 k h)
+  row_entries v t p q = omega (arith, listed k h)
 
   pub row_steps_fit : (v t : ℕ) → v ≡ get_or rules (3 * k) 0 → t ≡ v → Fits w32 (a + t)
-  row_steps_fit v t p q = record { fits = omega (arith, row_steps v t p q, i.steps_few, f.0, f.1) }
+  row_steps_fit v t p q = record { fits = omega (arith, row_steps v t p q, i.steps_few) }
 
   pub row_entries_fit : (v t : ℕ) → v ≡ get_or rules (3 * k + 2) 0 → t ≡ v → Fits w32 (b + t)
-  row_entries_fit v t p q = record { fits = omega (arith, row_entries v t p q, i.entries_few, f.0, f.2) }
+  row_entries_fit v t p q = record { fits = omega (arith, row_entries v t p q, i.entries_few) }
 
-  pub row_more : (v t u m : ℕ) (y : List ℕ) → v ≡ get_or rules (3 * k) 0 → t ≡ v → u ≡ get_or rules (3 * k + 2) 0 → m ≡ u
-      → y ≡ sets x (Layout.RULE-ORIGIN + Layout.RULE-WORDS * (r + k)) (origin ∷ source ∷ k ∷ (a + t) ∷ (b + m) ∷ [])
+  pub row_more : (r' v t u m : ℕ) (y : List ℕ) → r' ≡ r → v ≡ get_or rules (3 * k) 0 → t ≡ v → u ≡ get_or rules (3 * k + 2) 0 → m ≡ u
+      → y ≡ sets x (Layout.RULE-ORIGIN + Layout.RULE-WORDS * (r' + k)) (origin ∷ source ∷ k ∷ (a + t) ∷ (b + m) ∷ [])
       → Rowing w r rules n origin source s e (a + t) (b + m) (k + 1) y
-  row_more v t u m y p q o j l =
+  row_more r' v t u m y z p q o j l =
       let g = given rules [] [] [] [] [] in
       let old = rule_words s e (rules_given origin source g k) in
       let new = origin ∷ source ∷ k ∷ (s + step_total g k + step_count g k) ∷ (e + entry_total g k + entry_count g k) ∷ [] in
-      let at : Layout.RULE-ORIGIN + Layout.RULE-WORDS * (r + k) ≡ Layout.RULE-ORIGIN + Layout.RULE-WORDS * r + length old = omega (arith, rows_length s e origin source g k) in
+      let at : Layout.RULE-ORIGIN + Layout.RULE-WORDS * (r' + k) ≡ Layout.RULE-ORIGIN + Layout.RULE-WORDS * r + length old = omega (arith, rows_length s e origin source g k) in
       record {
         within = omega arith;
         size = ap length l ∙ length-sets x _ (origin ∷ source ∷ k ∷ (a + t) ∷ (b + m) ∷ []) ∙ i.size;
@@ -260,13 +260,13 @@ pub id_start : {rules : List ℕ} {n : ℕ} {steps combinators : List ℕ} → C
 id_start = unfold sum_below in (record { within = omega arith; behind = refl; same = refl; behind_few = omega arith; few = omega arith })
 
 module _ {rules : List ℕ} {n : ℕ} {steps combinators : List ℕ} {sum p k : ℕ} (t : Counting rules n steps combinators sum p k) where
-  module _ (f : (n ≤ 256) × SelectorsFit (given rules steps combinators [] [] []) n) (h : k < n) (v count : ℕ) (e : v ≡ get_or rules (3 * k) 0) (q : count ≡ v)
+  module _ (f : SelectorsFit (given rules steps combinators [] [] []) n) (h : k < n) (v count : ℕ) (e : v ≡ get_or rules (3 * k) 0) (q : count ≡ v)
       (l : List ℕ) (a : l ≡ drop (22 * p) steps) where
     pub ids_count : count ≤ 8
-    ids_count = omega (arith, (f.1 k h).few)
+    ids_count = omega (arith, (f k h).few)
 
     pub ids_rows : all_below count (λ (i : ℕ). row_fits 8 l (22 * i)) ≡ true
-    ids_rows = rw (q, e, a, t.behind) (f.1 k h).rows
+    ids_rows = rw (q, e, a, t.behind) (f k h).rows
 
     pub id_more : (m : ℕ) → Ids l count m → Counting rules n steps combinators (sum + m) (p + count) (k + 1)
     id_more m d =
@@ -276,7 +276,7 @@ module _ {rules : List ℕ} {n : ℕ} {steps combinators : List ℕ} {sum p k : 
           within = omega arith;
           behind = omega (arith, sum_next (step_count g) k, t.behind);
           same = omega (arith, sum_next (λ j. ids_held (selector_given g j)) k, t.same);
-          behind_few = omega (arith, (f.1 k h).few, t.behind_few);
+          behind_few = omega (arith, (f k h).few, t.behind_few);
           few = omega (arith, d.few, t.few);
         }
 
@@ -286,42 +286,42 @@ module _ {rules : List ℕ} {n : ℕ} {steps combinators : List ℕ} {sum p k : 
 -- ---- the counts after
 
 module _ {c : Counts} {rules : List ℕ} {n : ℕ} {steps combinators : List ℕ}
-    (f : Within c × (n ≤ 256) × SelectorsFit (given rules steps combinators [] [] []) n × EntriesFit (given rules [] [] [] [] []) n) where
+    (within : Within c) (few : n ≤ 256) (fits : SelectorsFit (given rules steps combinators [] [] []) n) (listed : EntriesFit (given rules [] [] [] [] []) n) where
   pub steps_asks : (n ≤ 256) × (0 ≤ 2) × ((k : ℕ) → k < n → get_or rules (3 * k + 0) 0 ≤ 32)
-  steps_asks = (f.1, omega arith, λ k h. let z : 3 * k + 0 ≡ 3 * k = omega arith in rw z (omega (arith, (f.2 k h).few)))
+  steps_asks = (few, omega arith, λ k h. let z : 3 * k + 0 ≡ 3 * k = omega arith in rw z (omega (arith, (fits k h).few)))
 
   steps_are : sum_below (λ k. get_or rules (3 * k + 0) 0) n ≡ step_total (given rules [] [] [] [] []) n
   steps_are = sum_same (λ k. get_or rules (3 * k + 0) 0) (λ k. get_or rules (3 * k) 0) n (λ k h. let z : 3 * k + 0 ≡ 3 * k = omega arith in rw z)
 
   module _ (a : ℕ) (e : a ≡ sum_below (λ k. get_or rules (3 * k + 0) 0) n) where
     steps_few : a ≤ 8 * n
-    steps_few = omega (arith, steps_are, sum_bound (step_count (given rules [] [] [] [] [])) 8 n (λ k h. (f.2 k h).few))
+    steps_few = omega (arith, steps_are, sum_bound (step_count (given rules [] [] [] [] [])) 8 n (λ k h. (fits k h).few))
 
     pub steps_fit_lem : Fits w32 a
-    steps_fit_lem = record { fits = omega (arith, steps_few, f.1) }
+    steps_fit_lem = record { fits = omega (arith, steps_few, few) }
 
     pub steps_sum_fit : Fits w32 (c.steps + a)
-    steps_sum_fit = record { fits = omega (arith, steps_few, f.1, f.0.steps) }
+    steps_sum_fit = record { fits = omega (arith, steps_few, few, within.steps) }
 
   module _ (a : ℕ) (e : a ≡ sum_below (λ k. get_or rules (3 * k + 2) 0) n) where
     entries_few : a ≤ 32 * n
-    entries_few = omega (arith, sum_bound (λ k. get_or rules (3 * k + 2) 0) 32 n f.3)
+    entries_few = omega (arith, sum_bound (λ k. get_or rules (3 * k + 2) 0) 32 n listed)
 
     pub entry_sum_fits : Fits w32 a
-    entry_sum_fits = record { fits = omega (arith, entries_few, f.1) }
+    entry_sum_fits = record { fits = omega (arith, entries_few, few) }
 
     pub entries_sum_fit : Fits w32 (c.entries + a)
-    entries_sum_fit = record { fits = omega (arith, entries_few, f.1, f.0.entries) }
+    entries_sum_fit = record { fits = omega (arith, entries_few, few, within.entries) }
 
   module _ (a : ℕ) (e : a ≡ id_total (given rules steps combinators [] [] []) n) where
     pub ids_fit_lem : Fits w32 a
-    ids_fit_lem = record { fits = omega (arith, id_total_few (given rules steps combinators [] [] []) n f.2, f.1) }
+    ids_fit_lem = record { fits = omega (arith, id_total_few (given rules steps combinators [] [] []) n fits, few) }
 
     pub ids_sum_fit : Fits w32 (c.ids + a)
-    ids_sum_fit = record { fits = omega (arith, id_total_few (given rules steps combinators [] [] []) n f.2, f.1, f.0.ids) }
+    ids_sum_fit = record { fits = omega (arith, id_total_few (given rules steps combinators [] [] []) n fits, few, within.ids) }
 
   pub next_fits_lem : Fits w32 (c.next + 1)
-  next_fits_lem = record { fits = omega (arith, f.0.next) }
+  next_fits_lem = record { fits = omega (arith, within.next) }
 
   pub counts_after : (a b d : ℕ) → a ≡ sum_below (λ k. get_or rules (3 * k + 0) 0) n → b ≡ sum_below (λ k. get_or rules (3 * k + 2) 0) n → d ≡ id_total (given rules steps combinators [] [] []) n
       → ◌≡◌ {A = Counts} (record { rules = c.rules + n; steps = c.steps + a; ids = c.ids + d; entries = c.entries + b; styles = c.styles; style_entries = c.style_entries; next = c.next + 1 })
@@ -330,22 +330,16 @@ module _ {c : Counts} {rules : List ℕ} {n : ℕ} {steps combinators : List ℕ
 
 -- ---- all but the counts
 
-pub rows_ask : {c : Counts} {rules : List ℕ} {n : ℕ} {steps combinators : List ℕ}
-    → Within c × (c.rules + n ≤ 256) × (c.steps + 8 * n ≤ 2048) × SelectorsFit (given rules steps combinators [] [] []) n × EntriesFit (given rules [] [] [] [] []) n
-    → (r s e : ℕ) → r ≡ c.rules → s ≡ c.steps → e ≡ c.entries
-    → (r + n ≤ 256) × (s ≤ 2048) × (e ≤ 4096) × ((k : ℕ) → k < n → get_or rules (3 * k) 0 ≤ 8) × EntriesFit (given rules [] [] [] [] []) n
-rows_ask f r s e a b d = (omega (arith, f.1), omega (arith, f.0.steps), omega (arith, f.0.entries), λ k h. (f.3 k h).few, f.4)
-
-module _ (origin next r s e r' s' e' s'' e'' n t : ℕ) (rules steps combinators properties kinds numbers w x y z : List ℕ) where
-  pub parts_put : t ≡ sum_below (λ k. get_or rules (3 * k + 2) 0) n → r' ≡ r → s' ≡ s → s'' ≡ s → e' ≡ e → e'' ≡ e
+module _ (origin next r s e e' n t : ℕ) (rules steps combinators properties kinds numbers w x y z : List ℕ) where
+  pub parts_put : t ≡ sum_below (λ k. get_or rules (3 * k + 2) 0) n → e' ≡ e
       → x ≡ lay_entries Layout.ENTRY Layout.ENTRY-ROOM e' (entries_of properties kinds numbers t) w
-      → y ≡ sets x (Layout.step_place s') (steps_words (rules_given 0 0 (given rules steps combinators [] [] []) n))
-      → z ≡ sets y (Layout.RULE-ORIGIN + Layout.RULE-WORDS * r') (rule_words s'' e'' (rules_given origin next (given rules [] [] [] [] []) n))
+      → y ≡ sets x (Layout.step_place s) (steps_words (rules_given 0 0 (given rules steps combinators [] [] []) n))
+      → z ≡ sets y (Layout.RULE-ORIGIN + Layout.RULE-WORDS * r) (rule_words s e (rules_given origin next (given rules [] [] [] [] []) n))
       → z ≡ lay_rules r s e (rules_given origin next (given rules steps combinators properties kinds numbers) n) w
   unfolding lay_rules
-  parts_put a b c d f g h i j =
+  parts_put a f h i j =
       let whole = given rules steps combinators properties kinds numbers in
-      j ∙ rw (i, h, a, b, c, d, f, g, entries_all origin next whole n, steps_same 0 0 origin next rules steps combinators [] [] [] properties kinds numbers n, rows_same s e origin next rules [] [] [] [] [] steps combinators properties kinds numbers n)
+      j ∙ rw (i, h, a, f, entries_all origin next whole n, steps_same 0 0 origin next rules steps combinators [] [] [] properties kinds numbers n, rows_same s e origin next rules [] [] [] [] [] steps combinators properties kinds numbers n)
 
 -- ---- a group
 
@@ -378,9 +372,6 @@ module _ (w : List ℕ) (origin : ℕ) (rules : List ℕ) (n : ℕ) (steps combi
     sum_within (entry_count (given rules steps combinators properties kinds numbers)) kinds n (λ k l. (ok.each k l).sized.counted.in_kinds),
     sum_within (entry_count (given rules steps combinators properties kinds numbers)) numbers n (λ k l. (ok.each k l).sized.counted.in_numbers),
   )
-
-  pub counts_ask : Within c × (n ≤ 256) × SelectorsFit (given rules steps combinators [] [] []) n × EntriesFit (given rules [] [] [] [] []) n
-  counts_ask = (group_within, omega (arith, ok.rules), group_selectors, group_entries)
 
   pub group_put : (x y : List ℕ) (d : Counts)
       → x ≡ lay_rules c.rules c.steps c.entries (rules_given origin c.next (given rules steps combinators properties kinds numbers) n) w

@@ -77,56 +77,59 @@ fn put_selector(sheet: &mut [u32], s: usize, steps: &[u32], combinators: &[u32],
     }
 }
 
-// The steps of n rules, after s steps.
-fn put_steps(
-    sheet: &mut [u32],
-    s: usize,
-    rules: &[u32],
+// A group of n rules that the checks have passed, after the counts of the sheet that it comes into.
+#[derive(Clone, Copy)]
+struct Passed<'a> {
+    c: Counts,
+    lists: GroupLists<'a>,
     n: usize,
-    steps: &[u32],
-    combinators: &[u32],
-)
-    requires { (s + 8 * n ≤ 2048) × SelectorsFit (given rules.now steps.now combinators.now [] [] []) n }
-    ensures { sheet.new ≡ sets sheet.old (step_place s) (steps_words (rules_given 0 0 (given rules.now steps.now combinators.now [] [] []) n)) }
+    ghost within: { Within c },
+    ghost rules_room: { c.rules + n ≤ 256 },
+    ghost steps_room: { c.steps + 8 * n ≤ 2048 },
+    ghost selectors: { SelectorsFit (given lists.rules.now lists.steps.now lists.combinators.now [] [] []) n },
+    ghost entries: { EntriesFit (given lists.rules.now [] [] [] [] []) n },
+}
+
+// The steps of its rules.
+fn put_steps(sheet: &mut [u32], g: Passed)
+    ensures { sheet.new ≡ sets sheet.old (step_place g.entry.c.steps) (steps_words (rules_given 0 0 (given g.entry.lists.rules.now g.entry.lists.steps.now g.entry.lists.combinators.now [] [] []) g.entry.n)) }
 {
+    let s = wide(g.c.steps);
     let mut p = 0;
     let mut c = 0;
-    for k in 0..n {
+    for k in 0..g.n {
         let i = 3 * k;
-        let count = wide(word(rules, i));
+        let count = wide(word(g.lists.rules, i));
         put_selector(
             sheet,
             s + p,
-            rest(steps, 22 * p),
-            rest(combinators, c),
+            rest(g.lists.steps, 22 * p),
+            rest(g.lists.combinators, c),
             count,
         );
         p += count;
-        c += wide(word(rules, i + 1));
+        c += wide(word(g.lists.rules, i + 1));
     }
 }
 
-// The rows of n rules after r, whose steps and entries begin after s and e.
-fn put_rule_rows(
-    sheet: &mut [u32],
-    r: usize,
-    rules: &[u32],
-    n: usize,
-    origin: u32,
-    source: u32,
-    s: usize,
-    e: usize,
-)
-    requires { (r + n ≤ 256) × (s ≤ 2048) × (e ≤ 4096) × ((k : ℕ) → k < n → get_or rules.now (3 * k) 0 ≤ 8) × EntriesFit (given rules.now [] [] [] [] []) n }
-    ensures { sheet.new ≡ sets sheet.old (RULE-ORIGIN + RULE-WORDS * r) (rule_words s e (rules_given origin source (given rules.now [] [] [] [] []) n)) }
+// The rows of its rules.
+fn put_rule_rows(sheet: &mut [u32], g: Passed, origin: u32)
+    ensures { sheet.new ≡ sets sheet.old (RULE-ORIGIN + RULE-WORDS * g.entry.c.rules) (rule_words g.entry.c.steps g.entry.c.entries (rules_given origin g.entry.c.next (given g.entry.lists.rules.now [] [] [] [] []) g.entry.n)) }
 {
-    let mut step_end = s;
-    let mut entry_end = e;
-    for k in 0..n {
+    let r = wide(g.c.rules);
+    let mut step_end = wide(g.c.steps);
+    let mut entry_end = wide(g.c.entries);
+    for k in 0..g.n {
         let i = 3 * k;
-        step_end += wide(word(rules, i));
-        entry_end += wide(word(rules, i + 2));
-        let row = [origin, source, k as u32, step_end as u32, entry_end as u32];
+        step_end += wide(word(g.lists.rules, i));
+        entry_end += wide(word(g.lists.rules, i + 2));
+        let row = [
+            origin,
+            g.c.next,
+            k as u32,
+            step_end as u32,
+            entry_end as u32,
+        ];
         put_row(sheet, layout::RULE_ORIGIN, r + k, &row);
     }
 }
@@ -143,31 +146,30 @@ fn third_sum(rules: &[u32], which: usize, n: usize) -> usize
     sum
 }
 
-// The ids that n rules hold.
-fn id_sum(rules: &[u32], n: usize, steps: &[u32], combinators: &[u32]) -> usize
-    requires { (n ≤ 256) × SelectorsFit (given rules.now steps.now combinators.now [] [] []) n }
-    ensures { result ≡ id_total (given rules.now steps.now combinators.now [] [] []) n }
+// The ids that its rules hold.
+fn id_sum(g: Passed) -> usize
+    ensures { result ≡ id_total (given g.entry.lists.rules.now g.entry.lists.steps.now g.entry.lists.combinators.now [] [] []) g.entry.n }
 {
     let mut sum = 0;
     let mut p = 0;
-    for k in 0..n {
-        let count = wide(word(rules, 3 * k));
-        sum += held_ids(rest(steps, 22 * p), count);
+    for k in 0..g.n {
+        let count = wide(word(g.lists.rules, 3 * k));
+        sum += held_ids(rest(g.lists.steps, 22 * p), count);
         p += count;
     }
     sum
 }
 
 // The counts after.
-fn group_counts(c: Counts, rules: &[u32], n: usize, steps: &[u32], combinators: &[u32]) -> Counts
-    requires { Within c × (n ≤ 256) × SelectorsFit (given rules.now steps.now combinators.now [] [] []) n × EntriesFit (given rules.now [] [] [] [] []) n }
-    ensures { result ≡ record { rules = c.rules + n; steps = c.steps + step_total (given rules.now [] [] [] [] []) n; ids = c.ids + id_total (given rules.now steps.now combinators.now [] [] []) n; entries = c.entries + entry_total (given rules.now [] [] [] [] []) n; styles = c.styles; style_entries = c.style_entries; next = c.next + 1 } }
+fn group_counts(g: Passed) -> Counts
+    ensures { result ≡ record { rules = g.entry.c.rules + g.entry.n; steps = g.entry.c.steps + step_total (given g.entry.lists.rules.now [] [] [] [] []) g.entry.n; ids = g.entry.c.ids + id_total (given g.entry.lists.rules.now g.entry.lists.steps.now g.entry.lists.combinators.now [] [] []) g.entry.n; entries = g.entry.c.entries + entry_total (given g.entry.lists.rules.now [] [] [] [] []) g.entry.n; styles = g.entry.c.styles; style_entries = g.entry.c.style_entries; next = g.entry.c.next + 1 } }
 {
-    let step_total = third_sum(rules, 0, n);
-    let entry_total = third_sum(rules, 2, n);
-    let id_total = id_sum(rules, n, steps, combinators);
+    let c = g.c;
+    let step_total = third_sum(g.lists.rules, 0, g.n);
+    let entry_total = third_sum(g.lists.rules, 2, g.n);
+    let id_total = id_sum(g);
     Counts {
-        rules: c.rules + n as u32,
+        rules: c.rules + g.n as u32,
         steps: c.steps + step_total as u32,
         ids: c.ids + id_total as u32,
         entries: c.entries + entry_total as u32,
@@ -177,37 +179,20 @@ fn group_counts(c: Counts, rules: &[u32], n: usize, steps: &[u32], combinators: 
 }
 
 // All but the counts.
-fn put_parts(sheet: &mut [u32], c: Counts, origin: u32, lists: GroupLists, n: usize)
-    requires within { Within c × (c.rules + n ≤ 256) × (c.steps + 8 * n ≤ 2048) × SelectorsFit (given lists.rules.now lists.steps.now lists.combinators.now [] [] []) n × EntriesFit (given lists.rules.now [] [] [] [] []) n }
-    requires n_in_bounds { (entry_total (given lists.rules.now [] [] [] [] []) n ≤ length lists.entries.properties.now) × (entry_total (given lists.rules.now [] [] [] [] []) n ≤ length lists.entries.kinds.now) × (entry_total (given lists.rules.now [] [] [] [] []) n ≤ length lists.entries.numbers.now) }
-    ensures { sheet.new ≡ lay_rules c.rules c.steps c.entries (rules_given origin c.next (group_of lists.entry) n) sheet.old }
+fn put_parts(sheet: &mut [u32], g: Passed, origin: u32)
+    requires { (entry_total (given g.lists.rules.now [] [] [] [] []) g.n ≤ length g.lists.entries.properties.now) × (entry_total (given g.lists.rules.now [] [] [] [] []) g.n ≤ length g.lists.entries.kinds.now) × (entry_total (given g.lists.rules.now [] [] [] [] []) g.n ≤ length g.lists.entries.numbers.now) }
+    ensures { sheet.new ≡ lay_rules g.entry.c.rules g.entry.c.steps g.entry.c.entries (rules_given origin g.entry.c.next (group_of g.entry.lists) g.entry.n) sheet.old }
 {
     put_entries(
         sheet,
         layout::ENTRY,
         layout::ENTRY_ROOM,
-        wide(c.entries),
-        lists.entries,
-        third_sum(lists.rules, 2, n),
+        wide(g.c.entries),
+        g.lists.entries,
+        third_sum(g.lists.rules, 2, g.n),
     );
-    put_steps(
-        sheet,
-        wide(c.steps),
-        lists.rules,
-        n,
-        lists.steps,
-        lists.combinators,
-    );
-    put_rule_rows(
-        sheet,
-        wide(c.rules),
-        lists.rules,
-        n,
-        origin,
-        c.next,
-        wide(c.steps),
-        wide(c.entries),
-    );
+    put_steps(sheet, g);
+    put_rule_rows(sheet, g, origin);
 }
 
 // A group that the checks have passed.
@@ -215,8 +200,11 @@ pub fn put_group(sheet: &mut [u32], origin: u32, lists: GroupLists, n: usize)
     requires { group_verdict sheet.old origin (group_of lists) n ≡ 0 }
     ensures { sheet.new ≡ pushed_group sheet.old origin (group_of lists.entry) n }
 {
-    let c = counts(sheet);
-    put_parts(sheet, c, origin, lists, n);
-    let after = group_counts(c, lists.rules, n, lists.steps, lists.combinators);
-    put_counts(sheet, after);
+    let g = Passed {
+        c: counts(sheet),
+        lists,
+        n,
+    };
+    put_parts(sheet, g, origin);
+    put_counts(sheet, group_counts(g));
 }

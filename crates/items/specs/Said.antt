@@ -1,5 +1,7 @@
 -- Lines of numbers in a buffer that is written out as it fills. Assumes nothing.
-use Rattle.std.specs.Prelude.{◌≡◌, cond, List, [], ◌∷◌, ℕ, leb}
+use Rattle.std.specs.Prelude.{◌≡◌, cond, List, [], ◌∷◌, ℕ, leb, Result, Ok, Err, Option, Some, None}
+use Rattle.lent.specs.declared.Refusal.{Refusal}
+use Rattle.lent.specs.Refusals.{number_of}
 use Rattle.lines.specs.Text.{Laid}
 use Rattle.screen.specs.Labelled.{Labelled}
 
@@ -38,3 +40,13 @@ pub record SaidLine (tag list before : List ℕ) (at r : ℕ) (after : List ℕ)
   pub first : Laid tag before at start tagged
   pub numbers : SaidNumbers list tagged start used numbered
   pub last : SaidEnd numbered used r after
+
+-- ---- an answer's numbers: 0 and what it gives, or the refusal's number
+
+abbrev pub answer_said : {A : Type 0} → (A → List ℕ) → Result A Refusal → List ℕ
+answer_said tell (Ok a) = 0 ∷ tell a
+answer_said tell (Err r) = number_of r ∷ []
+
+abbrev pub option_said : Option ℕ → List ℕ
+option_said (Some n) = n ∷ []
+option_said None = []

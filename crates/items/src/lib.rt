@@ -8,6 +8,7 @@ ghost use Rattle.items.specs.Items.{too_long};
 
 use lent::words::{wide, word};
 
+pub mod halves;
 pub mod held;
 pub mod said;
 pub mod say;

@@ -1,7 +1,7 @@
 // The numbers of a line by value, so that an answer can be taken apart with no buffer at hand.
 ghost use Rattle.std.specs.Prelude.{◌≡◌, [], ◌∷◌, take};
-ghost use Rattle.lent.specs.Refusals.{number_of};
-ghost use Rattle.items.specs.Said.{SaidLine};
+ghost use Rattle.lent.specs.Refusals.{number_of, one_if};
+ghost use Rattle.items.specs.Said.{SaidLine, answer_said, option_said};
 
 use crate::say;
 use lent::Refusal;
@@ -61,4 +61,62 @@ pub fn line(out: &mut [u8], at: usize, tag: &[u8], said: Said) -> usize
 {
     let list = said.list;
     say::line(out, at, tag, part(&list, 0, said.count))
+}
+
+// ---- an answer: 0 and what it gives, or the refusal's number
+
+impl From<Result<(), Refusal>> for Said {
+    ghost from_gives = { λ answer said. take said.count said.list ≡ answer_said (λ _. []) answer };
+
+    fn from(answer: Result<(), Refusal>) -> Said {
+        match answer {
+            Ok(()) => one(0),
+            Err(refusal) => refused(refusal),
+        }
+    }
+}
+
+impl From<Result<bool, Refusal>> for Said {
+    ghost from_gives = { λ answer said. take said.count said.list ≡ answer_said (λ yes. one_if yes ∷ []) answer };
+
+    fn from(answer: Result<bool, Refusal>) -> Said {
+        match answer {
+            Ok(yes) => two(0, u32::from(yes)),
+            Err(refusal) => refused(refusal),
+        }
+    }
+}
+
+impl From<Result<u32, Refusal>> for Said {
+    ghost from_gives = { λ answer said. take said.count said.list ≡ answer_said (λ n. n ∷ []) answer };
+
+    fn from(answer: Result<u32, Refusal>) -> Said {
+        match answer {
+            Ok(n) => two(0, n),
+            Err(refusal) => refused(refusal),
+        }
+    }
+}
+
+impl From<Result<Option<u32>, Refusal>> for Said {
+    ghost from_gives = { λ answer said. take said.count said.list ≡ answer_said option_said answer };
+
+    fn from(answer: Result<Option<u32>, Refusal>) -> Said {
+        match answer {
+            Ok(Some(n)) => two(0, n),
+            Ok(None) => one(0),
+            Err(refusal) => refused(refusal),
+        }
+    }
+}
+
+impl From<Result<(u32, u32), Refusal>> for Said {
+    ghost from_gives = { λ answer said. take said.count said.list ≡ answer_said (λ p. p.0 ∷ p.1 ∷ []) answer };
+
+    fn from(answer: Result<(u32, u32), Refusal>) -> Said {
+        match answer {
+            Ok((a, b)) => three(0, a, b),
+            Err(refusal) => refused(refusal),
+        }
+    }
 }

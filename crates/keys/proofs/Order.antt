@@ -1,19 +1,16 @@
 -- The derived order of keys is the order of their numbers. Assumes nothing.
 use mathlib.Core.Path.{◌≡◌, refl, ap, ◌∙◌}
-use mathlib.Core.Bool.{Bool, cond, ◌&&◌, true, false}
-use mathlib.Core.List.{List, [], ◌∷◌}
-use mathlib.Core.Logic.{inl, inr}
-use Prim.Native.Nat.{ℕ, ◌≤◌, ◌<◌}
+use mathlib.Core.Bool.{◌&&◌}
+use Prim.Native.Nat.{ℕ}
 use native.Mathlib.Omega.{arith}
 use native.Mathlib.Decide.{dec_lt}
-use lib.IntN.{ℤ, pos, negsuc}
-use lib.Dec.{eqb, ltb}
+use lib.Dec.{eqb}
 use borrow.Author.Tests.{lt-ltb, le-ltb, eq-eqb, ne_eqb}
 use Rattle.std.specs.Prelude.{Option, Some}
 use Rattle.std.proofs.Common.{Ordering, Less, Equal, Greater}
 use Rattle.std.specs.Ordering.{is_eq, is_gt, is_some_and, nat_cmp, ordering_then, partial_ordering_then, partial_gt}
-use Rattle.theory.specs.Lists.{compare}
 use Rattle.theory.specs.Cascade.{key_numbers, compare_keys, is_one, is_zero}
+use Rattle.theory.proofs.Ordered.{sign, sign_is}
 use Rattle.keys.specs.declared.CascadeEntryKey.{CascadeEntryKey}
 use Rattle.keys.specs.contracts.CascadeEntryKeyPartialOrd.TheImpl as P
 use Rattle.keys.specs.contracts.CascadeEntryKeyPartialEq.TheImpl as E
@@ -21,11 +18,6 @@ use Rattle.keys.specs.contracts.CascadeEntryKeyOrd.TheImpl as O
 use Rattle.keys.specs.Keys.{key_from}
 
 -- ---- an answer as a number
-
-abbrev pub sign : Ordering → ℤ
-sign Less = negsuc 0
-sign Equal = pos 0
-sign Greater = pos 1
 
 is_zero_sign : (o : Ordering) → is_eq o ≡ is_zero (sign o)
 is_zero_sign Less = refl
@@ -38,28 +30,6 @@ is_one_sign Equal = refl
 is_one_sign Greater = refl
 
 -- ---- numbers
-
-order_of : List ℕ → List ℕ → Ordering
-order_of [] [] = Equal
-order_of [] (y ∷ m) = Less
-order_of (x ∷ l) [] = Greater
-order_of (x ∷ l) (y ∷ m) = ordering_then (nat_cmp x y) (order_of l m)
-
-sign_next : (x y : ℕ) (o : Ordering) → sign (ordering_then (nat_cmp x y) o) ≡ cond (ltb x y) (negsuc 0) (cond (ltb y x) (pos 1) (sign o))
-sign_next x y o = elim (dec_lt x y) [
-  | yes l ↦ rw (lt-ltb x y l)
-  | no l ↦ elim (dec_lt y x) [
-    | yes g ↦ rw (le-ltb x y (omega arith), lt-ltb y x g, ne_eqb x y (λ z. omega arith))
-    | no g ↦ rw (le-ltb x y (omega arith), le-ltb y x (omega arith), eq-eqb x y (omega arith))
-  ]
-]
-
-order_sign : (l m : List ℕ) → sign (order_of l m) ≡ compare l m
-unfolding order_of compare
-order_sign [] [] = refl
-order_sign [] (y ∷ m) = refl
-order_sign (x ∷ l) [] = refl
-order_sign (x ∷ l) (y ∷ m) = rw (sign_next x y (order_of l m), order_sign l m) refl
 
 equal_is : (x y : ℕ) → eqb x y ≡ is_eq (nat_cmp x y)
 equal_is x y = elim (dec_lt x y) [
@@ -108,8 +78,8 @@ module _ (a b : CascadeEntryKey) where
   of_fields f = f (nat_cmp a.origin b.origin) (nat_cmp a.specificity.0 b.specificity.0) (nat_cmp a.specificity.1 b.specificity.1) (nat_cmp a.specificity.2 b.specificity.2) (nat_cmp a.specificity.3 b.specificity.3) (nat_cmp a.source_index b.source_index) (nat_cmp a.order b.order)
 
   pub key_order : sign ((O.cmp-value).it a b) ≡ compare_keys (key_from a) (key_from b)
-  unfolding compare_keys order_of
-  key_order = ap sign (of_fields flat).0 ∙ order_sign (key_numbers (key_from a)) (key_numbers (key_from b))
+  unfolding compare_keys
+  key_order = ap sign (of_fields flat).0 ∙ sign_is (key_numbers (key_from a)) (key_numbers (key_from b))
 
   -- the two tests of keys
   pub key_greater : partial_gt (P.partial_cmp-value).it a b ≡ is_one (compare_keys (key_from a) (key_from b))

@@ -9,7 +9,7 @@ use Rattle.sheet.specs.Layout.{SHEET-WORDS}
 use Rattle.given.specs.Given.{Group}
 use Rattle.gather.specs.Memory.{Roomy}
 use Rattle.house.specs.declared.Making.{Making}
-use Rattle.house.specs.Memory.{Before, FedSheet}
+use Rattle.house.specs.Memory.{state_in, Before, FedSheet}
 use Rattle.loading.specs.declared.held.Reading.{Reading}
 use Rattle.loading.specs.Turns.{Feeds, Reads}
 

@@ -3,7 +3,7 @@ use Rattle.std.specs.Prelude.{◌≡◌, true, List, ℕ, ◌≤◌}
 use Rattle.sheet.specs.Shape.{sheet_shape}
 use Rattle.given.specs.Given.{Group}
 use Rattle.house.specs.declared.Making.{Making}
-use Rattle.house.specs.Memory.{Before}
+use Rattle.house.specs.Memory.{state_in, Before}
 use Rattle.loading.specs.declared.held.Reading.{Reading}
 
 -- n bytes fed: what the next call requires, or what the walk does

@@ -1,5 +1,5 @@
 -- Two answers that tell the same and hold the same are the same: the record `Owned` determines an owned subject. Assumes nothing.
-use mathlib.Core.Path.{◌≡◌, refl, sym, ap, ◌∙◌}
+use mathlib.Core.Path.{◌≡◌, refl, sym, ◌∙◌}
 use mathlib.Core.List.{List}
 use Prim.Native.Nat.{ℕ}
 use Rattle.std.specs.Prelude.{Option, Result, Ok, Err}

@@ -19,12 +19,11 @@ use Rattle.typed.specs.declared.PseudoClassId.{PseudoClassId}
 use Rattle.typed.specs.declared.TypeTag.{TypeTag}
 use Rattle.typed.specs.declared.PartTag.{PartTag}
 use Rattle.typed.specs.declared.SelectorInputs.{SelectorInputs}
-use Rattle.std.specs.Prelude.{Option, None, Ok, Err}
-use Rattle.owned.specs.declared.SelectorInputsOwned.{SelectorInputsOwned}
+use Rattle.std.specs.Prelude.{Option, Ok, Err}
 use Rattle.selector.proofs.RowLaws.{words_few}
 use Rattle.selector.specs.Rows.{tag_number, words_from}
 use Rattle.selector.specs.Weighing.{is_set}
-use Rattle.typed.specs.Typed.{type_of, part_of, class_number, pseudo_number, inputs_of, tagged, inputs_row, inputs_with}
+use Rattle.typed.specs.Typed.{type_of, part_of, class_number, pseudo_number, inputs_of, inputs_row, inputs_with}
 use Rattle.typed.proofs.Laws.{sets_spread, row_classes, row_pseudos}
 use Rattle.owned.specs.Owned.{owned_verdict, ids_row, owned_inputs, Owned}
 

@@ -1,6 +1,7 @@
 -- 01: "show any two allowed outcomes equal": each public call's contract, as its `ensures` says it, determines the outcome. Assumes nothing.
 -- A slice's words before the call stand for `x.now` (`x.old` where it is lent to write), those after it for `x.new`; a slice that is not lent to write stays as it is.
-use mathlib.Core.Path.{◌≡◌, sym, ap, ◌∙◌}
+use mathlib.Core.Path.{◌≡◌, refl, sym, ap, ◌∙◌}
+use mathlib.Core.Bool.{true}
 use mathlib.Core.List.{List, [], ◌∷◌}
 use Prim.Native.Nat.{ℕ, suc}
 use lib.ListN.{length, get_elem?}
@@ -12,7 +13,7 @@ use Rattle.typed.specs.declared.TypeTag.{TypeTag}
 use Rattle.typed.specs.declared.PartTag.{PartTag}
 use Rattle.matcher.specs.declared.MatchState.{MatchState}
 use Rattle.theory.specs.Weight.{weight_of}
-use Rattle.lent.specs.Refusals.{answered, one_if}
+use Rattle.lent.specs.Refusals.{Check, check, first_of, checks_below, verdict_of, answered, one_if}
 use Rattle.property.specs.declared.PropertyId.{PropertyId}
 use Rattle.selector.specs.Matching.{matching_told, matching_of}
 use Rattle.selector.specs.Diagnosing.{diagnosis_told, diagnosis_of}
@@ -28,10 +29,12 @@ use Rattle.steps.specs.declared.SelectorStep.{SelectorStep}
 use Rattle.steps.specs.Steps.{step_matching, step_weighing}
 use Rattle.style.specs.Looking.{length_told, containing_told, position_told, kind_told, plain_told, resource_told, style_answer, containing_of, position_of, kind_of, plain_of, resource_of, found, Ids}
 use Rattle.style.proofs.Distinct.{length_distinct, containing_distinct, position_distinct, kind_distinct, plain_distinct, resource_distinct, ids_determined}
-use Rattle.sheet.specs.Layout.{rules_in, styles_in}
+use Rattle.sheet.specs.Layout.{rules_in, styles_in, ids_in}
 use Rattle.sheet.specs.Sheets.{counts_for, rule_at, style_at}
 use Rattle.reading.specs.Reading.{counting_told, emptiness_told, rule_told, style_told, entry_told, combinator_told, sheet_verdict, rule_verdict, weight_verdict, emptiness_of, rule_numbers, style_numbers, entry_numbers, combinator_numbers, style_there, StepRead}
 use Rattle.reading.proofs.Distinct.{counting_distinct, emptiness_distinct, rule_distinct, style_distinct, entry_distinct, combinator_distinct, step_read_distinct}
+use Rattle.given.specs.Given.{Group}
+use Rattle.given.specs.Pushing.{front_checks, index_checks, rule_checks, rules_over, all_entries_in, style_push_verdict, group_verdict, cascade_verdict}
 use Rattle.builder.specs.Answers.{Push}
 use Rattle.builder.proofs.Pushes.{push_determined}
 use Rattle.table.specs.Tables.{Table, table}
@@ -61,20 +64,25 @@ use Rattle.cascade.specs.Calls.{changed_in, pair_verdict}
 use Rattle.cascade.specs.Answers.{channels_told}
 use Rattle.cascade.proofs.Distinct.{channels_determined}
 use Rattle.promises.specs.Determined.{Determined, DeterminedPart}
+use Rattle.promises.proofs.Checked.{plain, plain_append, plain_below, checks_alike}
 
 -- ---- any call
 
 module _ {A : Type 0} where
   -- a contract that says what the answer, or the memory at exit, is. These calls have no other: `lent::Refusal`'s; those of `lent::words` and of `idset`;
   -- `lent::lists::address`, `cell`, `start_of`; `PropertyId::index`, `compare`; the constructors, `row` and `from_row` of `SelectorInputs` and `SelectorStep`;
-  -- those of `TypeChoice` and `PartChoice`; those of `sheet::shape`, `table::shape`, `admit::sources`, `joining::cascades` and `matcher::states`; `root_state`; `cursor::index_after`;
-  -- `CascadeEntryKey::compare`; `ChannelSet::contains`, `is_empty`, `len`.
+  -- `typed::tag_flag`, `tag_number`, `tag_from_words`, `row_words`; `Combinator::from`; those of `sheet::shape`, `table::shape`; those of `admit::sources`,
+  -- `joining::cascades` and `matcher::states` that don't check; `root_state`; `cursor::index_after`; `CascadeEntryKey::compare`; `ChannelSet::contains`, `is_empty`, `len`.
   pub said_determined : (x : A) → Determined (λ r. r ≡ x)
   said_determined x a b p q = p ∙ sym q
 
   -- one that says what the answer tells, where answers that tell the same are the same
   pub told_determined : {tell : A → List ℕ} → ((a b : A) → tell a ≡ tell b → a ≡ b) → (x : List ℕ) → Determined (λ r. tell r ≡ x)
   told_determined distinct x a b p q = distinct a b (p ∙ sym q)
+
+-- one that says the number of the refusal that a check finds, 0 for none, where none is 10 (`plain`)
+pub checks_determined : (l : List Check) → plain l ≡ true → Determined (λ (r : Result ⊤ Refusal). verdict_of r ≡ first_of l)
+checks_determined l p a b e f = checks_alike l p a b e f
 
 -- of two parts
 pairs : {A B : Type 0} {x y : A × B} → (x.0 ≡ y.0) × (x.1 ≡ y.1) → x ≡ y
@@ -174,6 +182,31 @@ module _ (w : List ℕ) where
 
     pub style_entry_determined : (i : ℕ) → Determined (λ r. entry_told r ≡ style_there w number (entry_numbers (get_elem? (style_at w number).entries i)))
     style_entry_determined i = told_determined entry_distinct (style_there w number (entry_numbers (get_elem? (style_at w number).entries i)))
+
+-- ---- checks alone: `matcher::states::check_state`; `admit::sources::check_style`, `check_group`; `joining::cascades::check_cascade`
+
+pub check_state_determined : (w : List ℕ) (t : Table) (number stamp : ℕ) → Determined (λ (r : Result ⊤ Refusal). verdict_of r ≡ state_verdict w t number stamp)
+unfolding state_verdict
+check_state_determined w t number stamp = checks_determined _ refl
+
+pub check_style_determined : (w : List ℕ) (origin : ℕ) (properties kinds numbers : List ℕ) (n : ℕ)
+    → Determined (λ (r : Result ⊤ Refusal). verdict_of r ≡ style_push_verdict w origin properties kinds numbers n)
+unfolding style_push_verdict
+check_style_determined w origin properties kinds numbers n = checks_determined _ refl
+
+pub check_group_determined : (w : List ℕ) (origin : ℕ) (g : Group) (n : ℕ) → Determined (λ (r : Result ⊤ Refusal). verdict_of r ≡ group_verdict w origin g n)
+unfolding group_verdict
+check_group_determined w origin g n =
+    checks_determined _ (plain_append (front_checks w origin) _ refl (plain_append (check 2 (rules_over w g.rules n) ∷ []) _ refl
+    (plain_append (checks_below n (rule_checks (ids_in w) (all_entries_in w) g)) (index_checks w) (plain_below (rule_checks (ids_in w) (all_entries_in w) g) (rule_plain w g) n) refl)))
+  where
+    rule_plain : (w : List ℕ) (g : Group) (k : ℕ) → plain (rule_checks (ids_in w) (all_entries_in w) g k) ≡ true
+    unfolding rule_checks
+    rule_plain w g k = refl
+
+pub check_cascade_determined : (w v : List ℕ) → Determined (λ (r : Result ⊤ Refusal). verdict_of r ≡ cascade_verdict w v)
+unfolding cascade_verdict
+check_cascade_determined w v = checks_determined _ refl
 
 -- ---- builder: `new`, `push_style`, `push_rules`, `push_rule`, `push_cascade`, each with its own verdict and its own words pushed; the sheet at exit
 

@@ -1,3 +1,4 @@
+pub mod Checked
 pub mod Determined
 pub mod Ladders
 pub mod Demand1

@@ -15,7 +15,7 @@ use Rattle.theory.specs.Lists.{ascends}
 use Rattle.theory.proofs.Lists.{or_first, or_second, le_or_lt}
 use Rattle.lent.specs.All.{all_below}
 use Rattle.lent.specs.Refusals.{check, first_of}
-use Rattle.lent.proofs.All.{Sofar, sofar_start, sofar_done, sofar_more, sofar_fails}
+use Rattle.lent.proofs.All.{Sofar, sofar_done, sofar_fails}
 use Rattle.lent.proofs.Refusals.{first_clear}
 use Rattle.selector.specs.Rows.{words_from, row_at}
 use Rattle.selector.specs.Checks.{row_fits, selector_over, path_over, combinators_off, codes_over, tags_ascend, selector_verdict}

@@ -1,5 +1,5 @@
 -- Whether a selector fits a path, as a function: 01, "Paths". Assumes nothing.
-use Rattle.std.specs.Prelude.{Bool, true, false, cond, List, [], ◌∷◌, ℕ, zero, suc, ◌+◌, ◌-◌, get_or, ltb, eqb, Result, Ok}
+use Rattle.std.specs.Prelude.{Bool, true, false, cond, List, ℕ, zero, suc, ◌+◌, ◌-◌, get_or, ltb, eqb, Result, Ok}
 use Rattle.theory.specs.States.{descends}
 use Rattle.lent.specs.declared.Refusal.{Refusal}
 use Rattle.lent.specs.Refusals.{answered, yes_told}

@@ -4,16 +4,15 @@
 ghost use Rattle.std.specs.Prelude.{◌≡◌, drop, Some, None};
 ghost use Rattle.selector.specs.Matching.{matching_told};
 ghost use Rattle.selector.specs.Weighing.{weighing_told};
-ghost use Rattle.typed.specs.Typed.{class_number, pseudo_number, row_with};
 ghost use Rattle.steps.specs.Steps.{asking, asking_type, asking_part, asking_class, asking_pseudo, step_row, step_with, step_from, step_matching, step_weighing};
 
 use lent::Refusal;
-use lent::words::wide;
+use lent::words::{copy_into, wide};
 use selector::Specificity;
 use selector::held::{matches_row, row_ascends, row_fits};
 use typed::{
-    ClassId, PartTag, PseudoClassId, SelectorInputs, TypeTag, row_words, tag_flag, tag_from_words,
-    tag_number,
+    ClassId, PartTag, PseudoClassId, SelectorInputs, TypeTag, ids_from, numbers, row_words,
+    tag_flag, tag_from_words, tag_number,
 };
 use weight::held::step_specificity;
 
@@ -128,38 +127,16 @@ impl SelectorStep {
     {
         let t = self.type_tag;
         let p = self.part_tag;
-        self.row_with(tag_flag(t), tag_number(t), tag_flag(p), tag_number(p))
-    }
-
-    fn row_with(self, type_flag: u32, type_tag: u32, part_flag: u32, part_tag: u32) -> [u32; 22]
-        ensures { result ≡ row_with 8 type_flag type_tag part_flag part_tag self.class_count self.pseudo_count (class_number self.required_classes) (pseudo_number self.required_pseudos) }
-    {
-        let c = self.required_classes;
-        let s = self.required_pseudos;
-        [
-            type_flag,
-            type_tag,
-            part_flag,
-            part_tag,
-            self.class_count,
-            self.pseudo_count,
-            c[0].0,
-            c[1].0,
-            c[2].0,
-            c[3].0,
-            c[4].0,
-            c[5].0,
-            c[6].0,
-            c[7].0,
-            s[0].0,
-            s[1].0,
-            s[2].0,
-            s[3].0,
-            s[4].0,
-            s[5].0,
-            s[6].0,
-            s[7].0,
-        ]
+        let mut row = [0u32; 22];
+        row[0] = tag_flag(t);
+        row[1] = tag_number(t);
+        row[2] = tag_flag(p);
+        row[3] = tag_number(p);
+        row[4] = self.class_count;
+        row[5] = self.pseudo_count;
+        copy_into(&mut row, 6, &numbers(self.required_classes));
+        copy_into(&mut row, 14, &numbers(self.required_pseudos));
+        row
     }
 
     // The step whose row begins at word `at`; a word past the end is 0.
@@ -173,32 +150,12 @@ impl SelectorStep {
     fn from_words(type_tag: Option<TypeTag>, part_tag: Option<PartTag>, w: [u32; 22]) -> Self
         ensures { result ≡ step_with type_tag part_tag w }
     {
-        let required_classes = [
-            ClassId(w[6]),
-            ClassId(w[7]),
-            ClassId(w[8]),
-            ClassId(w[9]),
-            ClassId(w[10]),
-            ClassId(w[11]),
-            ClassId(w[12]),
-            ClassId(w[13]),
-        ];
-        let required_pseudos = [
-            PseudoClassId(w[14]),
-            PseudoClassId(w[15]),
-            PseudoClassId(w[16]),
-            PseudoClassId(w[17]),
-            PseudoClassId(w[18]),
-            PseudoClassId(w[19]),
-            PseudoClassId(w[20]),
-            PseudoClassId(w[21]),
-        ];
         Self {
             type_tag,
             part_tag,
-            required_classes,
+            required_classes: ids_from(&w[6..]),
             class_count: w[4],
-            required_pseudos,
+            required_pseudos: ids_from(&w[14..]),
             pseudo_count: w[5],
         }
     }

@@ -61,9 +61,6 @@ pub kinds_are : (kinds l : List ℕ) (n : ℕ) (b : Bool) → l ≡ take (n - 0)
 unfolding kinds_over
 kinds_are kinds l n b e f = rw (f, e, front kinds n)
 
-pub ids_are : (properties l words : List ℕ) (n : ℕ) → l ≡ take (n - 0) (drop 0 properties) → words ≡ sets (replicate 32 0) 0 l → words ≡ sets (replicate 32 0) 0 (take n properties)
-ids_are properties l words n e f = f ∙ rw (e, front properties n)
-
 -- the first n of the widened words are the first n ids
 module _ (properties words : List ℕ) (n : ℕ) (w : words ≡ sets (replicate 32 0) 0 (take n properties)) (g : n ≤ 32) (h : n ≤ length properties) where
   pub widened : take (n - 0) (drop 0 words) ≡ take n properties

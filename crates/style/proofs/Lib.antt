@@ -1,4 +1,3 @@
 pub mod CheckLaws
 pub mod LookLaws
-pub mod Answers
 pub mod Distinct

@@ -19,7 +19,7 @@ sign Less = negsuc 0
 sign Equal = pos 0
 sign Greater = pos 1
 
-sign_is : (a b : List ℕ) → sign (slice_cmp nat_cmp a b) ≡ compare a b
+pub sign_is : (a b : List ℕ) → sign (slice_cmp nat_cmp a b) ≡ compare a b
 unfolding compare
 sign_is [] [] = refl
 sign_is [] (y ∷ b) = refl

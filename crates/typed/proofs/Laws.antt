@@ -1,22 +1,29 @@
 -- Laws of subjects by value, and of rows, over the size of their arrays. Assumes nothing.
-use mathlib.Core.Path.{◌≡◌, refl, sym, ap, ◌∙◌}
+use mathlib.Core.Path.{◌≡◌, refl, sym, ap, ◌∙◌, subst}
+use mathlib.Core.Logic.{⊎_elim}
 use mathlib.Core.Option as maybe
 use Rattle.std.specs.Prelude.{Option}
 use mathlib.Core.List.{List, [], ◌∷◌}
-use Prim.Native.Nat.{ℕ, zero, suc, ◌+◌, ◌-◌, ◌≤◌}
+use Prim.Native.Nat.{ℕ, zero, suc, ◌+◌, ◌-◌, ◌≤◌, ◌<◌}
 use native.Mathlib.Nat.{zero-add}
 use native.Mathlib.Omega.{arith}
 use lib.ListN.{length, get_or, take, drop, set, replicate, length-drop}
-use lib.Seq.{sets, take_all, take-append-le, drop_at, drop-drop}
+use lib.Seq.{sets, take_all, get_or-take, get_or-drop, take-append-le, drop_at, drop-drop}
 use Rattle.theory.specs.Lists.{spread}
-use Rattle.theory.proofs.Spreads.{length_spread, take_spread}
+use Rattle.theory.proofs.Spreads.{length_spread, take_spread, spread_same, spread_shift, spread_list}
+use Rattle.theory.proofs.Lists.{le_or_lt}
+use Rattle.std.specs.Array.{IsFromFnResult, IsFromFnResultFrom}
+use denote.Param.Members.{Mut}
+use Rattle.std.specs.Fn.{Called}
+use Rattle.typed.specs.declared.ClassId.{ClassId}
+use Rattle.typed.specs.declared.PseudoClassId.{PseudoClassId}
 use Rattle.typed.specs.declared.TypeTag.{TypeTag}
 use Rattle.typed.specs.declared.PartTag.{PartTag}
 use Rattle.typed.specs.declared.SelectorInputs.{SelectorInputs}
 use Rattle.selector.specs.Rows.{tag_of, tag_number, row_at}
 use Rattle.selector.specs.Weighing.{is_set}
 use Rattle.typed.specs.Typed.{type_of, part_of, class_number, pseudo_number, inputs_tags}
-use Rattle.typed.specs.Typed.{row_with, row_of, inputs_row, row_type, row_part, inputs_with, inputs_from}
+use Rattle.typed.specs.Typed.{row_with, row_of, inputs_row, row_type, row_part, inputs_with, inputs_from, classes_from, pseudos_from}
 
 -- ---- a list spelled out place by place
 
@@ -40,6 +47,38 @@ sets_spread (suc n) (a ∷ l) = sets_cons a (replicate n 0) 0 l ∙ ap (λ r. a 
 
 pub copied : (n : ℕ) (words l w : List ℕ) (at : ℕ) → l ≡ take (length words - at) (drop at words) → w ≡ sets (replicate n 0) 0 l → w ≡ spread (λ k. get_or (drop at words) k 0) 0 n
 copied n words l w at e f = f ∙ ap (sets (replicate n 0) 0) (e ∙ take_all (length words - at) (drop at words) (simp length-drop (omega arith))) ∙ sets_spread n (drop at words)
+
+-- a list is what its elements are
+pub spelled : {A : Type 0} (l : List A) (d : A) (h : ℕ → A) (n : ℕ) → length l ≡ n → ((k : ℕ) → k < n → get_or l k d ≡ h k) → l ≡ spread h 0 n
+spelled l d h n e f = sym (spread_list l d) ∙ rw e (spread_same (λ i. get_or l i d) h 0 n (λ i p q. f i (omega arith)))
+
+-- what a closure gave at each number below n, where it gives h of that number and stays as it is
+module _ {F B : Type 0} {g : Mut F (ℕ × Unit {0}) B} (f : F) (h : ℕ → B) (gives : (i : ℕ) (y : B) (q : F) → Called g f (i, tt) y q → (q ≡ f) × (y ≡ h i)) where
+  given_at : (ys : List B) (i n : ℕ) (p : F) → p ≡ f → IsFromFnResultFrom g p ys i n → (j : ℕ) (d : B) → i ≤ j → j < i + n → get_or ys j d ≡ h j
+  given_at ys i zero p e w j d le lt = absurd (omega arith)
+  given_at ys i (suc n) p e (q, y, at, c, rest) j d le lt =
+      let r = gives i y q (subst (λ (x : F). Called g x (i, tt) y q) e c) in
+      ⊎_elim
+      (λ z. let w : i ≡ j = omega arith in subst (λ (x : ℕ). get_or ys x d ≡ h x) w (at.1 d ∙ r.1))
+      (λ z. given_at ys (i + 1) n q r.0 rest j d (omega arith) (omega arith))
+      (le_or_lt j i)
+
+  pub given_all : (ys : List B) (n : ℕ) (d : B) → IsFromFnResult g f ys n → ys ≡ spread h 0 n
+  given_all ys n d w = spelled ys d h n w.long (λ k lt. given_at ys 0 n f refl w.each k d (omega arith) (omega arith))
+
+-- ids read from a part of a row are read from the row
+pub ids_read : {A : Type 0} (made : ℕ → A) (w : List ℕ) (at m n : ℕ) → n ≤ m → spread (λ k. made (get_or (take m (drop at w)) k 0)) 0 n ≡ spread (λ k. made (get_or w k 0)) at n
+ids_read made w at m n h =
+    let z : at + 0 ≡ at = omega arith in
+    spread_same (λ k. made (get_or (take m (drop at w)) k 0)) (λ k. made (get_or w (at + k) 0)) 0 n (λ i p q. ap made (get_or-take m (drop at w) i 0 (omega arith) ∙ get_or-drop at w i 0))
+    ∙ spread_shift (λ k. made (get_or w k 0)) at 0 n
+    ∙ rw z refl
+
+pub classes_read : (size : ℕ) (w : List ℕ) (at m : ℕ) (ids : List ClassId) → ids ≡ spread (λ k. record { 0 = get_or (take m (drop at w)) k 0 }) 0 size → size ≤ m → ids ≡ classes_from size w at
+classes_read size w at m ids e h = e ∙ ids_read (λ n. record { 0 = n }) w at m size h
+
+pub pseudos_read : (size : ℕ) (w : List ℕ) (at m : ℕ) (ids : List PseudoClassId) → ids ≡ spread (λ k. record { 0 = get_or (take m (drop at w)) k 0 }) 0 size → size ≤ m → ids ≡ pseudos_from size w at
+pseudos_read size w at m ids e h = e ∙ ids_read (λ n. record { 0 = n }) w at m size h
 
 -- ---- rows
 

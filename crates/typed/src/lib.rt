@@ -5,11 +5,12 @@ ghost use Rattle.std.specs.Prelude.{◌≡◌, refl, ℕ, drop, get_or, Some, No
 ghost use Rattle.theory.specs.Lists.{spread};
 ghost use Rattle.selector.specs.Rows.{tag_of, tag_number};
 ghost use Rattle.selector.specs.Weighing.{is_set};
-ghost use Rattle.typed.specs.Typed.{number_in, tag_from, class_number, pseudo_number, no_classes, inputs_of, tagged, row_with, inputs_row, inputs_with, inputs_from};
+ghost use Rattle.typed.specs.Typed.{number_in, tag_from, no_classes, inputs_of, tagged, inputs_row, inputs_with, inputs_from};
 
-use lent::words::copy_into;
+use lent::words::{copy_into, word};
+use std::array;
 
-// The kinds of tag: numbers that are kept apart.
+// The kinds of tag and id: numbers that are kept apart.
 pub trait Tag: Copy {
     ghost value: { Self → ℕ };
 
@@ -21,7 +22,7 @@ pub trait Tag: Copy {
     fn tagged(number: u32) -> Self
         ensures { result ≡ made number };
 
-    // Each tag is made of its own number, and of no other.
+    // Each is made of its own number, and of no other.
     ghost kept: { (t : Self) → made (value t) ≡ t };
 
     ghost given: { (n : ℕ) → value (made n) ≡ n };
@@ -75,6 +76,42 @@ impl Tag for PartTag {
     }
 }
 
+impl Tag for ClassId {
+    ghost value = { λ t. t.0 };
+
+    ghost made = { λ n. record { 0 = n } };
+
+    ghost kept = { λ t. refl };
+
+    ghost given = { λ n. refl };
+
+    fn number(self) -> u32 {
+        self.0
+    }
+
+    fn tagged(number: u32) -> ClassId {
+        ClassId(number)
+    }
+}
+
+impl Tag for PseudoClassId {
+    ghost value = { λ t. t.0 };
+
+    ghost made = { λ n. record { 0 = n } };
+
+    ghost kept = { λ t. refl };
+
+    ghost given = { λ n. refl };
+
+    fn number(self) -> u32 {
+        self.0
+    }
+
+    fn tagged(number: u32) -> PseudoClassId {
+        PseudoClassId(number)
+    }
+}
+
 // 1 where a tag is set.
 pub fn tag_flag<T: Tag>(tag: Option<T>) -> u32
     ensures { result ≡ is_set (number_in T.value tag) }
@@ -112,6 +149,24 @@ pub fn row_words<const N: usize>(words: &[u32], at: usize) -> [u32; N]
     let mut row = [0u32; N];
     copy_into(&mut row, 0, lent::held::part(words, at, words.len()));
     row
+}
+
+// The numbers of tags or ids.
+pub fn numbers<T: Tag, const N: usize>(ids: [T; N]) -> [u32; N]
+    ensures { result ≡ spread (λ (k : ℕ). T.value (get_or ids k (T.made 0))) 0 N }
+{
+    let mut words = [0u32; N];
+    for (k, id) in ids.iter().enumerate() {
+        words[k] = id.number();
+    }
+    words
+}
+
+// The ids with the numbers of the first words; a word past the end is 0.
+pub fn ids_from<T: Tag, const N: usize>(words: &[u32]) -> [T; N]
+    ensures { result ≡ spread (λ (k : ℕ). T.made (get_or words.now k 0)) 0 N }
+{
+    array::from_fn(|k| T::tagged(word(words, k)))
 }
 
 // A subject. Its ids are the first of each array, as many as the count says.
@@ -180,14 +235,7 @@ impl SelectorInputs {
     ) -> Self
         ensures { result ≡ inputs_of type_tag None classes class_count pseudos pseudo_count }
     {
-        Self::with_part(
-            type_tag,
-            None,
-            classes,
-            class_count,
-            pseudos,
-            pseudo_count,
-        )
+        Self::with_part(type_tag, None, classes, class_count, pseudos, pseudo_count)
     }
 
     pub fn typed_with_pseudos(
@@ -231,55 +279,16 @@ impl SelectorInputs {
     {
         let t = self.type_tag;
         let p = self.part_tag;
-        self.row_with(tag_flag(t), tag_number(t), tag_flag(p), tag_number(p))
-    }
-
-    // The same after the first four words.
-    fn row_with(self, type_flag: u32, type_tag: u32, part_flag: u32, part_tag: u32) -> [u32; 38]
-        ensures { result ≡ row_with 16 type_flag type_tag part_flag part_tag self.class_count self.pseudo_count (class_number self.classes) (pseudo_number self.pseudos) }
-    {
-        let c = self.classes;
-        let s = self.pseudos;
-        [
-            type_flag,
-            type_tag,
-            part_flag,
-            part_tag,
-            self.class_count,
-            self.pseudo_count,
-            c[0].0,
-            c[1].0,
-            c[2].0,
-            c[3].0,
-            c[4].0,
-            c[5].0,
-            c[6].0,
-            c[7].0,
-            c[8].0,
-            c[9].0,
-            c[10].0,
-            c[11].0,
-            c[12].0,
-            c[13].0,
-            c[14].0,
-            c[15].0,
-            s[0].0,
-            s[1].0,
-            s[2].0,
-            s[3].0,
-            s[4].0,
-            s[5].0,
-            s[6].0,
-            s[7].0,
-            s[8].0,
-            s[9].0,
-            s[10].0,
-            s[11].0,
-            s[12].0,
-            s[13].0,
-            s[14].0,
-            s[15].0,
-        ]
+        let mut row = [0u32; 38];
+        row[0] = tag_flag(t);
+        row[1] = tag_number(t);
+        row[2] = tag_flag(p);
+        row[3] = tag_number(p);
+        row[4] = self.class_count;
+        row[5] = self.pseudo_count;
+        copy_into(&mut row, 6, &numbers(self.classes));
+        copy_into(&mut row, 22, &numbers(self.pseudos));
+        row
     }
 
     // The subject whose row begins at word `at`; a word past the end is 0.
@@ -287,59 +296,19 @@ impl SelectorInputs {
         ensures { result ≡ inputs_from (drop at words.now) }
     {
         let w: [u32; 38] = row_words(words, at);
-        Self::from_words(
-            tag_from_words(w[0], w[1]),
-            tag_from_words(w[2], w[3]),
-            w,
-        )
+        Self::from_words(tag_from_words(w[0], w[1]), tag_from_words(w[2], w[3]), w)
     }
 
     // The same after the first four words.
     pub fn from_words(type_tag: Option<TypeTag>, part_tag: Option<PartTag>, w: [u32; 38]) -> Self
         ensures { result ≡ inputs_with type_tag part_tag w }
     {
-        let classes = [
-            ClassId(w[6]),
-            ClassId(w[7]),
-            ClassId(w[8]),
-            ClassId(w[9]),
-            ClassId(w[10]),
-            ClassId(w[11]),
-            ClassId(w[12]),
-            ClassId(w[13]),
-            ClassId(w[14]),
-            ClassId(w[15]),
-            ClassId(w[16]),
-            ClassId(w[17]),
-            ClassId(w[18]),
-            ClassId(w[19]),
-            ClassId(w[20]),
-            ClassId(w[21]),
-        ];
-        let pseudos = [
-            PseudoClassId(w[22]),
-            PseudoClassId(w[23]),
-            PseudoClassId(w[24]),
-            PseudoClassId(w[25]),
-            PseudoClassId(w[26]),
-            PseudoClassId(w[27]),
-            PseudoClassId(w[28]),
-            PseudoClassId(w[29]),
-            PseudoClassId(w[30]),
-            PseudoClassId(w[31]),
-            PseudoClassId(w[32]),
-            PseudoClassId(w[33]),
-            PseudoClassId(w[34]),
-            PseudoClassId(w[35]),
-            PseudoClassId(w[36]),
-            PseudoClassId(w[37]),
-        ];
         Self {
             type_tag,
             part_tag,
-            classes,
+            classes: ids_from(&w[6..]),
             class_count: w[4],
-            pseudos,
+            pseudos: ids_from(&w[22..]),
             pseudo_count: w[5],
         }
     }

@@ -29,7 +29,7 @@ use Rattle.covered.proofs.Reached.{covered_sheet, covered_shaped}
 use Rattle.replies.specs.Walking.{changed_room}
 use Rattle.house.specs.declared.Making.{Making}
 use Rattle.house.specs.House.{lent_table}
-use Rattle.house.specs.Memory.{FedSheet}
+use Rattle.house.specs.Memory.{state_in, FedSheet}
 use Rattle.house.proofs.Never.{build_never_refused}
 
 -- THE THEOREM: where the records have come to kind 8, the sheet is built, whatever room there is for transitions

@@ -14,7 +14,7 @@ use Rattle.wording.specs.Lines.{refused_line}
 use Rattle.replies.specs.Walking.{walking}
 use Rattle.house.specs.declared.Making.{Making}
 use Rattle.house.specs.House.{Phase, first, making, walks, built_of, ending, walk_from, walk_of}
-use Rattle.house.specs.Memory.{Below, phase_of, phase_left, FedSheet}
+use Rattle.house.specs.Memory.{state_in, Below, phase_of, phase_left, FedSheet}
 use Rattle.house.proofs.Walk.{walk_cut, walk_end, walk_refused, walk_on}
 use Rattle.house.proofs.Front.{rest_below}
 use Rattle.making.proofs.Feeding.{phase_here}

@@ -9,7 +9,7 @@ use Rattle.wording.specs.Lines.{refused_line}
 use Rattle.house.specs.declared.Making.{Making}
 use Rattle.house.specs.declared.Walked.{Walked}
 use Rattle.house.specs.House.{lent_table}
-use Rattle.house.specs.Memory.{FedSheet, FedWalk}
+use Rattle.house.specs.Memory.{state_in, verdict_in, FedSheet, FedWalk}
 
 module _ (room : ℕ) where
   -- What is printed from here on: `left` is what the last call left of its piece, and each piece that comes is put after it. A call that ends neither the

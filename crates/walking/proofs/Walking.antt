@@ -4,7 +4,6 @@ use mathlib.Core.Bool.{Bool, true, false, cond, true≢false}
 use mathlib.Core.List.{List, [], ◌++◌, append-nil}
 use Prim.Native.Nat.{ℕ, ◌+◌, ◌-◌, ◌≤◌, ◌<◌}
 use native.Mathlib.Omega.{arith}
-use native.Mathlib.Decide.{ℕ_discrete}
 use lib.ListN.{length, take, drop, length-append, length-drop}
 use lib.Seq.{sets-eq, length-sets, length-take-le, take_at, drop_at, drop-drop}
 use Rattle.lent.proofs.Pool.{rest_all}
@@ -18,6 +17,8 @@ use Rattle.replies.specs.declared.Replied.{Replied}
 use Rattle.replies.specs.Memory.{Ready, Replies}
 use Rattle.house.specs.declared.Walked.{Walked}
 use Rattle.house.specs.House.{walks, outcome, stops, leads, printing, reached_in, reached}
+use Rattle.house.specs.declared.Found.{Found}
+use Rattle.house.specs.declared.Found.TheVariants.{Whole, Short, Unknown}
 use Rattle.house.specs.Memory.{Refused, WalkedSoFar, FedWalk}
 use Rattle.house.specs.Memory.Refused.{whole, unknown}
 use Rattle.walking.specs.Answering.{PastReply, Answers, Next, Last, Ahead, Ended}
@@ -251,20 +252,27 @@ module _ {input : List ℕ} {offset : ℕ} {w : List ℕ} {t₀ : Table} {items�
   pub going_room : Room v.used out
   going_room = omega (arith, g.long, n.few)
 
+short_known : Short ≡ Unknown → ⊥
+short_known e = cc
+
 -- where there is none more, that is all
 module _ {input : List ℕ} {offset : ℕ} {w : List ℕ} {t₀ : Table} {items₀ out₀ : List ℕ} {v : Walked} {out : List ℕ} {t : Table} {items : List ℕ}
-    (g : Going input offset w t₀ items₀ out₀ v out t items) {found : ℕ} (a : Ahead input v found) where
-  pub end_room : found ≡ 2 → Room v.used out
+    (g : Going input offset w t₀ items₀ out₀ v out t items) {found : Found} (a : Ahead input v found) where
+  pub end_room : found ≡ Unknown → Room v.used out
   end_room u = going_room g (a.unknown u).0
 
-  pub going_fed : (found ≡ 0 → ⊥) → {r : Walked} {out' : List ℕ} → Ended v found out r out' → FedWalk input offset w t₀ items₀ out₀ r out' t items
-  going_fed z {r} {out'} e = elim (ℕ_discrete found 2) [
-    | yes u ↦ let (n, k) = a.unknown u in
-        let far = going_over g n r out' (e.said u) (e.place u) (λ room. unknown (omega (arith, length-drop v.at input, n.left)) k refl) in
-        record { walked = far.far; cut = λ _ x. absurd (true≢false (sym (e.place u).2 ∙ x)) }
-    | no u ↦ let (p, q) = e.keeps u in
-        rw (p, q) (record { walked = g.far; cut = λ h x. (a.rests z u).cut h (g.none h x) x })
-  ]
+  pub going_fed : (found ≡ Whole → ⊥) → {r : Walked} {out' : List ℕ} → Ended v found out r out' → FedWalk input offset w t₀ items₀ out₀ r out' t items
+  going_fed z {r} {out'} e = by found refl
+    where
+      by : (x : Found) → found ≡ x → FedWalk input offset w t₀ items₀ out₀ r out' t items
+      by Whole q = absurd (z q)
+      by Short q =
+          let (m, l) = e.keeps (λ u. short_known (sym q ∙ u)) in
+          rw (m, l) (record { walked = g.far; cut = λ h x. (a.rests q).cut h (g.none h x) x })
+      by Unknown u =
+          let (n, k) = a.unknown u in
+          let far = going_over g n r out' (e.said u) (e.place u) (λ room. unknown (omega (arith, length-drop v.at input, n.left)) k refl) in
+          record { walked = far.far; cut = λ _ x. absurd (true≢false (sym (e.place u).2 ∙ x)) }
 
 -- ---- whether there is a step
 
@@ -280,27 +288,27 @@ module _ {input : List ℕ} {v : Walked} (n : Next input v) (w : is_whole (drop 
   )
 
 module _ {input : List ℕ} {v : Walked} where
-  ahead_not : Last input v → Ahead input v 1
-  ahead_not h = record { takes = λ z. absurd (omega arith); unknown = λ z. absurd (omega arith); rests = λ _ _. h }
+  ahead_not : Last input v → Ahead input v Short
+  ahead_not h = record { takes = λ z. cc; unknown = λ z. cc; rests = λ _. h }
 
-  pub ahead_ends : v.ends ≡ true → Ahead input v 1
+  pub ahead_ends : v.ends ≡ true → Ahead input v Short
   ahead_ends h = ahead_not (record { cut = λ p q e. absurd (true≢false (sym h ∙ e)) })
 
-  pub ahead_full : 40000 < v.used → Ahead input v 1
+  pub ahead_full : 40000 < v.used → Ahead input v Short
   ahead_full h = ahead_not (record { cut = λ p q e. absurd (omega arith) })
 
-  pub ahead_none : length input ≤ v.at → Ahead input v 1
+  pub ahead_none : length input ≤ v.at → Ahead input v Short
   ahead_none h = ahead_not (record { cut = λ p q e. none_cut input (omega arith) })
 
 -- by what is at the front
-pub ahead_front : {input : List ℕ} {v : Walked} (r : ℕ) → r ≡ front_of (rested input v.at) → v.at < length input → v.ends ≡ false → v.used ≤ 40000 → Ahead input v r
+pub ahead_front : {input : List ℕ} {v : Walked} (r : Found) → r ≡ front_of (rested input v.at) → v.at < length input → v.ends ≡ false → v.used ≤ 40000 → Ahead input v r
 ahead_front {input} {v} r e l o f =
     let here : r ≡ front_of (drop v.at input) = rw (rest_all input v.at) at e in
     let n : Next input v = record { left = l; opened = o; few = f } in
     record {
-      takes = λ z. (n, front_whole (drop v.at input) r here (λ x. omega (arith, z, x)) (λ x. omega (arith, z, x)));
+      takes = λ z. (n, front_whole (drop v.at input) r here z);
       unknown = λ u. (n, front_unknown (drop v.at input) r here u);
-      rests = λ x y. record { cut = λ p q z. rw p at (front_cut (drop v.at input) r here x y) };
+      rests = λ x. record { cut = λ p q z. rw p at (front_cut (drop v.at input) r here x) };
     }
 
 -- ---- the ways through the functions
@@ -317,9 +325,9 @@ pub reply_goes : (v : Walked) (kind size : ℕ) (a : Replied) (off : ℕ)
 reply_goes v kind size a off q z f = rw (← z) (record { told = (refl, sym q); stays = λ x. absurd (true≢false (sym x ∙ q)); goes = λ _. refl; reach = λ _ h. f h })
 
 -- at the end
-module _ (v : Walked) (found : ℕ) (out : List ℕ) where
-  pub end_keeps : (found ≡ 2 → ⊥) → Ended v found out v out
+module _ (v : Walked) (found : Found) (out : List ℕ) where
+  pub end_keeps : (found ≡ Unknown → ⊥) → Ended v found out v out
   end_keeps n = record { said = λ e. absurd (n e); place = λ e. absurd (n e); keeps = λ _. (refl, refl) }
 
-  pub end_refuses : found ≡ 2 → (used : ℕ) (out' : List ℕ) → Said (refused_line 10 v.offset) out v.used used out' → Ended v found out (record { at = v.at; offset = v.offset; used = used; ends = true }) out'
+  pub end_refuses : found ≡ Unknown → (used : ℕ) (out' : List ℕ) → Said (refused_line 10 v.offset) out v.used used out' → Ended v found out (record { at = v.at; offset = v.offset; used = used; ends = true }) out'
   end_refuses e used out' s = record { said = λ _. s; place = λ _. (refl, refl, refl); keeps = λ n. absurd (n e) }

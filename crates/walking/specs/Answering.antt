@@ -7,6 +7,8 @@ use Rattle.replies.specs.declared.Replied.{Replied}
 use Rattle.replies.specs.Walking.{walking}
 use Rattle.replies.specs.Memory.{Replies}
 use Rattle.house.specs.declared.Walked.{Walked}
+use Rattle.house.specs.declared.Found.{Found}
+use Rattle.house.specs.declared.Found.TheVariants.{Whole, Short, Unknown}
 use Rattle.house.specs.Memory.{Cut}
 
 -- after a reply: the place is that after the record, unless it ends the program
@@ -33,14 +35,14 @@ pub record Next (input : List ℕ) (v : Walked) : Type 0 where
 pub record Last (input : List ℕ) (v : Walked) : Type 0 where
   pub cut : v.at ≡ 0 → v.used ≡ 0 → v.ends ≡ false → Cut input
 
--- what stands ahead: a record to answer (0), a byte that is no kind (2), or no step to take
-pub record Ahead (input : List ℕ) (v : Walked) (found : ℕ) : Type 0 where
-  pub takes : found ≡ 0 → Next input v × (is_whole (drop v.at input) ≡ true)
-  pub unknown : found ≡ 2 → Next input v × (known (kind_of (drop v.at input)) ≡ false)
-  pub rests : (found ≡ 0 → ⊥) → (found ≡ 2 → ⊥) → Last input v
+-- what stands ahead: a record to answer, a byte that is no kind, or no step to take
+pub record Ahead (input : List ℕ) (v : Walked) (found : Found) : Type 0 where
+  pub takes : found ≡ Whole → Next input v × (is_whole (drop v.at input) ≡ true)
+  pub unknown : found ≡ Unknown → Next input v × (known (kind_of (drop v.at input)) ≡ false)
+  pub rests : found ≡ Short → Last input v
 
 -- the refusal of such a byte ends the program
-pub record Ended (v : Walked) (found : ℕ) (out : List ℕ) (r : Walked) (out' : List ℕ) : Type 0 where
-  pub said : found ≡ 2 → Said (refused_line 10 v.offset) out v.used r.used out'
-  pub place : found ≡ 2 → (r.at ≡ v.at) × (r.offset ≡ v.offset) × (r.ends ≡ true)
-  pub keeps : (found ≡ 2 → ⊥) → (r ≡ v) × (out' ≡ out)
+pub record Ended (v : Walked) (found : Found) (out : List ℕ) (r : Walked) (out' : List ℕ) : Type 0 where
+  pub said : found ≡ Unknown → Said (refused_line 10 v.offset) out v.used r.used out'
+  pub place : found ≡ Unknown → (r.at ≡ v.at) × (r.offset ≡ v.offset) × (r.ends ≡ true)
+  pub keeps : (found ≡ Unknown → ⊥) → (r ≡ v) × (out' ≡ out)

@@ -7,8 +7,8 @@ ghost use Rattle.replies.specs.Memory.{Ready};
 ghost use Rattle.house.specs.Memory.{FedWalk};
 ghost use Rattle.walking.specs.Answering.{PastReply, Ahead, Ended};
 
-use house::Walked;
 use house::held::{front, further};
+use house::{Found, Walked};
 use records::held::{record_in, size_of};
 use replies::Replied;
 use replies::held::reply;
@@ -35,31 +35,31 @@ fn past_reply(w: Walked, kind: u32, answer: Replied) -> Walked
     }
 }
 
-// What stands ahead in a piece: a record to answer (0), none, or no room for a line more (1), or a byte that is no kind (2).
-fn ahead(input: &[u8], w: Walked) -> u32
+// What stands ahead in a piece: nothing is, once the program ends, or there is no room for a line more.
+fn ahead(input: &[u8], w: Walked) -> Found
     ensures { Ahead input.now w result }
 {
     if w.ends {
-        return 1;
+        return Found::Short;
     }
     if 40000 < w.used {
-        return 1;
+        return Found::Short;
     }
     let at = w.at;
     if input.len() <= at {
-        return 1;
+        return Found::Short;
     }
     front(&input[at..])
 }
 
 // A byte that is no kind is refused.
-fn end(w: Walked, found: u32, out: &mut [u8]) -> Walked
-    requires { found ≡ 2 → Room w.used out.old }
+fn end(w: Walked, found: Found, out: &mut [u8]) -> Walked
+    requires { found ≡ Found.Unknown → Room w.used out.old }
     ensures { Ended w found out.old result out.new }
 {
-    if found != 2 {
+    let Found::Unknown = found else {
         return w;
-    }
+    };
     let used = refused(out, w.used, 10, w.offset);
     Walked {
         used,
@@ -91,7 +91,7 @@ pub fn feed_walk(
         ends: false,
     };
     let mut found = ahead(input, w);
-    while found == 0 {
+    while let Found::Whole = found {
         let at = w.at;
         let item = record_in(&input[at..]);
         let answer = reply(

@@ -1,4 +1,4 @@
-// For callers that hold the sheet to its shape already.
+// For callers that hold the sheet to its shape already: they lend it as a Sheet.
 ghost use Rattle.std.specs.Prelude.{◌≡◌, ◌≤◌, ◌<◌};
 ghost use Rattle.selector.specs.Rows.{row_at};
 ghost use Rattle.selector.specs.Weighing.{Counted, Summed};

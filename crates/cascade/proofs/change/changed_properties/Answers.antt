@@ -23,8 +23,8 @@ returns-then-out-n c = changed_short _ _ _ _ _ _ _ _ _ _ _ c.in_ok-check_pair.en
 pub slice_bounds-list-end : goal.slice_bounds-list-end
 slice_bounds-list-end c = search (held_within, rules)
 
-pub slice_bounds-copy_halves_into-end : goal.slice_bounds-copy_halves_into-end
-slice_bounds-copy_halves_into-end c = search (held_part, rules)
+pub slice_bounds-copy_into-end : goal.slice_bounds-copy_into-end
+slice_bounds-copy_into-end c = search (held_part, rules)
 
 pub returns : goal.returns
-returns c = changed_listed _ _ _ _ _ _ _ _ _ _ _ c.in_ok-check_pair.ensures _ _ _ c.changed_properties-n.ensures (omega arith) _ c.copy_halves_into.ensures
+returns c = changed_listed _ _ _ _ _ _ _ _ _ _ _ c.in_ok-check_pair.ensures _ _ _ c.changed_properties-n.ensures (omega arith) _ c.copy_into.ensures

@@ -1,12 +1,13 @@
-use borrow.Author.Rules.{rules}
-use Rattle.group.proofs.Writing.{group_asks, lists_long, counts_ask, group_put}
+use Rattle.group.proofs.Writing.{group_asks, lists_long, group_put}
 use Rattle.group.proofs.held.put_group.Goals as goal
 
-pub put_parts-requires : goal.put_parts-requires
-put_parts-requires c = record { within = group_asks _ _ _ _ _ _ _ _ _ c.requires _ c.counts-c.ensures; n_in_bounds = lists_long _ _ _ _ _ _ _ _ _ c.requires _ c.counts-c.ensures }
+pub invariant_of-g : goal.invariant_of-g
+invariant_of-g c =
+    let a = group_asks _ _ _ _ _ _ _ _ _ c.requires _ c.counts.ensures in
+    record { within = a.0; rules_room = a.1; steps_room = a.2; selectors = a.3; entries = a.4 }
 
-pub group_counts-after-requires : goal.group_counts-after-requires
-group_counts-after-requires c = counts_ask _ _ _ _ _ _ _ _ _ c.requires _ c.counts-c.ensures
+pub put_parts-requires : goal.put_parts-requires
+put_parts-requires c = lists_long _ _ _ _ _ _ _ _ _ c.requires _ c.counts.ensures
 
 pub returns : goal.returns
-returns c = search (group_put, c.requires, c.counts-c.ensures, c.put_parts.ensures, c.group_counts-after.ensures, c.put_counts.ensures)
+returns c = search (group_put, c.requires, c.counts.ensures, c.put_parts.ensures, c.group_counts.ensures, c.put_counts.ensures)

@@ -2,4 +2,4 @@ use Rattle.group.proofs.Writing.{Rowing}
 use Rattle.group.proofs.held.put_rule_rows.Given as goal
 
 abbrev pub invariant-loop-k : goal.invariant-loop-k
-invariant-loop-k l = Rowing l.initial.sheet l.r l.rules l.n l.origin l.source l.s l.e l.step_end l.entry_end l.k l.sheet
+invariant-loop-k l = Rowing l.initial.sheet l.g.c.rules l.g.lists.rules.now l.g.n l.origin l.g.c.next l.g.c.steps l.g.c.entries l.step_end l.entry_end l.k l.sheet

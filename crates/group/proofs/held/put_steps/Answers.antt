@@ -9,18 +9,18 @@ loop-k-init c = search (rule_start, rules)
 pub put_selector-requires : goal.put_selector-requires
 put_selector-requires c =
     let i = c.loop-k.invariant in
-    let f = c.requires in
+    let f = c.args.g.selectors in
     let h = c.loop-k-test.true in
-    (omega (arith, i.steps_few, f.0), count_few i f h _ _ c.word.ensures c.wide-count.ensures, selector_rows i f h _ _ c.word.ensures c.wide-count.ensures _ _ c.rest.ensures c.rest-in-loop-k.ensures, selector_codes i f h _ _ c.word.ensures c.wide-count.ensures _ _ c.rest.ensures c.rest-in-loop-k.ensures)
+    (omega (arith, i.steps_few, c.args.g.steps_room, c.wide-s.ensures), count_few i f h _ _ c.word.ensures c.wide-count.ensures, selector_rows i f h _ _ c.word.ensures c.wide-count.ensures _ _ c.rest.ensures c.rest-in-loop-k.ensures, selector_codes i f h _ _ c.word.ensures c.wide-count.ensures _ _ c.rest.ensures c.rest-in-loop-k.ensures)
 
 pub overflow_add-p : goal.overflow_add-p
-overflow_add-p c = search (count_few, rules)
+overflow_add-p c = let e = count_few c.loop-k.invariant c.args.g.selectors c.loop-k-test.true _ _ c.word.ensures c.wide-count.ensures in search rules
 
 pub overflow_add-c : goal.overflow_add-c
-overflow_add-c c = search (ties_few, rules)
+overflow_add-c c = let e = ties_few c.loop-k.invariant c.args.g.selectors c.loop-k-test.true _ _ c.word-in-loop-k.ensures c.wide-c.ensures in search rules
 
 pub loop-k-preserved : goal.loop-k-preserved
-loop-k-preserved c = rule_more c.loop-k.invariant c.requires c.loop-k-test.true _ _ c.word.ensures c.wide-count.ensures _ _ c.rest.ensures c.rest-in-loop-k.ensures _ _ _ c.word-in-loop-k.ensures c.wide-c.ensures c.put_selector.ensures
+loop-k-preserved c = rule_more c.loop-k.invariant c.args.g.selectors c.loop-k-test.true _ _ c.word.ensures c.wide-count.ensures _ _ c.rest.ensures c.rest-in-loop-k.ensures _ _ _ c.word-in-loop-k.ensures c.wide-c.ensures c.put_selector.ensures
 
 pub returns : goal.returns
-returns c = search (rule_end, rules)
+returns c = rw c.wide-s.ensures at (rule_end c.loop-k.invariant (omega arith))

@@ -1,5 +1,6 @@
-use mathlib.Core.Path.{◌≡◌, ap, ◌∙◌, sym}
-use Rattle.keys.proofs.Order.{sign, key_order}
+use mathlib.Core.Path.{ap, ◌∙◌, sym}
+use Rattle.theory.proofs.Ordered.{sign}
+use Rattle.keys.proofs.Order.{key_order}
 use Rattle.keys.proofs.CascadeEntryKey.compare.Goals as goal
 
 pub returns-in-Less : goal.returns-in-Less

@@ -1,5 +1,4 @@
 use native.Mathlib.Omega.{arith}
-use borrow.Author.Rules.{rules}
 use mathlib.Core.Path.{sym}
 use Rattle.lent.proofs.Copying.{sets_out, copy_whole, copy_front}
 use Rattle.lent.proofs.words.copy_into.Goals as goal

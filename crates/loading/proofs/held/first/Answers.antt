@@ -5,4 +5,4 @@ use Rattle.loading.proofs.held.first.Goals as goal
 -- `loading::held::first` meets its contract. Assumes nothing.
 
 pub returns : goal.returns
-returns c = (refl, start_before)
+returns c = (refl, rw c.opened.ensures start_before)

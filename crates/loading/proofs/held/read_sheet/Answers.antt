@@ -5,8 +5,8 @@ use Rattle.loading.proofs.held.read_sheet.Goals as goal
 
 -- `loading::held::read_sheet` meets its contract. Assumes nothing.
 
-pub loop-turns-init : goal.loop-turns-init
-loop-turns-init c = search (turning_start, rules)
+pub loop-init : goal.loop-init
+loop-init c = search (turning_start, rules)
 
 pub turn_sheet-s-requires : goal.turn_sheet-s-requires
 turn_sheet-s-requires c = search (turning_before, rules)
@@ -14,9 +14,9 @@ turn_sheet-s-requires c = search (turning_before, rules)
 pub returns-then-is_done : goal.returns-then-is_done
 returns-then-is_done c = search (reads_size, rules)
 
-pub loop-turns-preserved : goal.loop-turns-preserved
-loop-turns-preserved c =
-    let i = c.loop-turns.invariant in (
+pub loop-preserved : goal.loop-preserved
+loop-preserved c =
+    let i = c.loop.invariant in (
       turning_next i.1 c.turn_sheet-s.ensures c.is_done.ensures c.if-is_done.false,
       c.input-1.given ∙ i.1,
       c.sheet-1.given ∙ i.2,

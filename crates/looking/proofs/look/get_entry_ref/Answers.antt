@@ -1,6 +1,6 @@
 use borrow.Author.Rules.{rules}
 use Rattle.looking.proofs.Verdicts.{state_refused}
-use Rattle.looking.proofs.Looking.{kind_fits, plain_found, plain_none}
+use Rattle.looking.proofs.Looking.{plain_found, plain_none}
 use Rattle.looking.proofs.look.get_entry_ref.Goals as goal
 
 pub returns-in_err-found : goal.returns-in_err-found

@@ -1,6 +1,6 @@
 use borrow.Author.Rules.{rules}
 use Rattle.looking.proofs.Verdicts.{state_refused}
-use Rattle.looking.proofs.Looking.{kind_fits, resource_found, resource_none}
+use Rattle.looking.proofs.Looking.{resource_found, resource_none}
 use Rattle.looking.proofs.look.resource_key.Goals as goal
 
 pub returns-in_err-found : goal.returns-in_err-found

@@ -4,9 +4,9 @@ use Rattle.touring.proofs.held.walk.Goals as goal
 
 -- `touring::held::walk` meets its contract. Assumes nothing.
 
-pub loop-turns-preserved : goal.loop-turns-preserved
-loop-turns-preserved c =
-    let i = c.loop-turns.invariant in (
+pub loop-preserved : goal.loop-preserved
+loop-preserved c =
+    let i = c.loop.invariant in (
       at_most_lem c.turn_walk-s.ensures.0 c.input-1.given,
       c.out-1.given ∙ i.1,
       c.turn_walk-s.ensures.1,

@@ -4,11 +4,11 @@ use Rattle.walking.proofs.held.end.Goals as goal
 
 -- `walking::held::end` meets its contract. Assumes nothing.
 
-pub returns-then-found-ne2 : goal.returns-then-found-ne2
-returns-then-found-ne2 c = search (end_keeps, rules)
+pub returns-in_default : goal.returns-in_default
+returns-in_default c = search (end_keeps, rules)
 
 pub refused-used-requires : goal.refused-used-requires
-refused-used-requires c = c.requires c.if-found-ne2.false
+refused-used-requires c = c.requires c.in-Unknown.is
 
 pub returns : goal.returns
 returns c = search (end_refuses, rules)

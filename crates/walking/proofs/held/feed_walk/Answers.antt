@@ -12,33 +12,33 @@ loop-found-init c =
 pub record_in-item-requires : goal.record_in-item-requires
 record_in-item-requires c =
     let i = c.loop-found.invariant in
-    let t = i.1.takes c.loop-found-test.true in
+    let t = i.1.takes c.in-Whole.is in
     next_whole t.0 t.1
 
 pub reply-answer-requires : goal.reply-answer-requires
 reply-answer-requires c =
     let i = c.loop-found.invariant in
-    let t = i.1.takes c.loop-found-test.true in
+    let t = i.1.takes c.in-Whole.is in
     record { ready = i.0.far.ready; room = going_room i.0 t.0; narrow = c.record_in-item.ensures.1 }
 
 pub past_reply-w-requires : goal.past_reply-w-requires
 past_reply-w-requires c =
     let i = c.loop-found.invariant in
-    let t = i.1.takes c.loop-found-test.true in
+    let t = i.1.takes c.in-Whole.is in
     next_past t.0 t.1 c.record_in-item.ensures.0 c.well_formed.0.0
 
 pub loop-found-smaller : goal.loop-found-smaller
 loop-found-smaller c =
     let i = c.loop-found.invariant in
-    let t = i.1.takes c.loop-found-test.true in
+    let t = i.1.takes c.in-Whole.is in
     step_less i.0 t.0 t.1 c.record_in-item.ensures.0 c.reply-answer.ensures c.past_reply-w.ensures
 
 pub loop-found-preserved : goal.loop-found-preserved
 loop-found-preserved c =
     let i = c.loop-found.invariant in
-    let t = i.1.takes c.loop-found-test.true in (
+    let t = i.1.takes c.in-Whole.is in (
       going_step i.0 t.0 t.1 c.record_in-item.ensures.0 c.reply-answer.ensures c.past_reply-w.ensures,
-      c.ahead-found-in-loop-found.ensures,
+      c.ahead-found-in-Whole.ensures,
       c.head-1.given ∙ i.2,
       c.states-1.given ∙ i.3,
       c.cursors-1.given ∙ i.4,
@@ -54,4 +54,4 @@ end-requires c = end_room c.loop-found.invariant.0 c.loop-found.invariant.1
 pub returns : goal.returns
 returns c =
     let i = c.loop-found.invariant in
-    going_fed i.0 i.1 c.loop-found-test.false c.end.ensures
+    going_fed i.0 i.1 c.in_default.not-Whole c.end.ensures

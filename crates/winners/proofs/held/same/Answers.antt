@@ -1,4 +1,4 @@
-use mathlib.Core.Path.{◌≡◌, ◌∙◌}
+use mathlib.Core.Path.{◌∙◌}
 use Rattle.keys.proofs.Order.{key_equal}
 use Rattle.winners.proofs.held.same.Goals as goal
 

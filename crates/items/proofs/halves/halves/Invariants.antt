@@ -1,0 +1,5 @@
+use Rattle.std.proofs.Common.{◌≡◌, ◌%◌, ◌<◌, ◌×◌, ℕ, length, get_or}
+use Rattle.items.proofs.halves.halves.Given as goal
+
+abbrev pub invariant-loop-i : goal.invariant-loop-i
+invariant-loop-i l = (k : ℕ) → k < l.i → get_or l.into k 0 ≡ get_or l.words k 0 % 65536
