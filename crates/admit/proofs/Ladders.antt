@@ -110,9 +110,6 @@ module _ (w : List ℕ) (origin : ℕ) (l : List Check) (s : sheet_shape w ≡ t
 
 -- the shape as it was tested
 module _ (w : List ℕ) (b : Bool) (e : b ≡ sheet_shape w) where
-  pub in_shape : not b ≡ false → sheet_shape w ≡ true
-  in_shape f = sym e ∙ not-false b f
-
   pub style_shapeless : not b ≡ true → (origin : ℕ) (properties kinds numbers : List ℕ) (n : ℕ) → 11 ≡ style_push_verdict w origin properties kinds numbers n
   unfolding style_push_verdict
   style_shapeless f origin properties kinds numbers n = unless_hit 11 b (sheet_shape w) _ e f

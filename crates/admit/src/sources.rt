@@ -1,7 +1,6 @@
 // The refusals of a pushed style and of a pushed group, in 01's order. Nothing is written.
-ghost use Rattle.std.specs.Prelude.{◌≡◌, true, ◌+◌, ◌*◌, ◌≤◌, length, drop};
+ghost use Rattle.std.specs.Prelude.{◌≡◌, ◌+◌, ◌*◌, ◌≤◌, length, drop};
 ghost use Rattle.lent.specs.Refusals.{first_of, checks_below, verdict_of};
-ghost use Rattle.sheet.specs.Shape.{sheet_shape};
 ghost use Rattle.given.specs.Given.{group_of};
 ghost use Rattle.given.specs.Pushing.{index_checks, form_checks, style_size_checks, style_push_verdict, rules_over, rule_size_checks, one_rule_checks, rule_checks, group_verdict};
 
@@ -11,8 +10,7 @@ use given::{EntryLists, GroupLists};
 use lent::Refusal;
 use lent::held::rest;
 use lent::words::{wide, word};
-use sheet::layout;
-use sheet::shape::is_sheet;
+use sheet::{Sheet, layout};
 use style::held::{entries_over, kinds_over, properties_off};
 
 // 7.
@@ -57,29 +55,28 @@ fn check_style_sizes(sheet: &[u32], entries: EntryLists, n: usize) -> Result<(),
 
 // 6 (origin), 2, 6, 1, 7, of a sheet in shape: apart from `check_style`, so that a record with many groups tests its sheet once.
 pub fn check_style_held(
-    sheet: &[u32],
+    sheet: Sheet<'_>,
     origin: u32,
     entries: EntryLists,
     n: usize,
 ) -> Result<(), Refusal>
-    requires { sheet_shape sheet.now ≡ true }
-    ensures { verdict_of result ≡ style_push_verdict sheet.now origin entries.entry.properties.now entries.entry.kinds.now entries.entry.numbers.now n }
+    ensures { verdict_of result ≡ style_push_verdict sheet.entry.words.now origin entries.entry.properties.now entries.entry.kinds.now entries.entry.numbers.now n }
 {
     if 7 < origin {
         return Err(Refusal::CodeOutOfRange);
     }
-    check_style_sizes(sheet, entries, n)?;
+    check_style_sizes(sheet.words, entries, n)?;
     check_form(entries, n)?;
-    check_index(sheet)
+    check_index(sheet.words)
 }
 
 // "Pushing a style 11, 6 (origin), 2, 6, 1, 7."
 pub fn check_style(sheet: &[u32], origin: u32, entries: EntryLists, n: usize) -> Result<(), Refusal>
     ensures { verdict_of result ≡ style_push_verdict sheet.now origin entries.entry.properties.now entries.entry.kinds.now entries.entry.numbers.now n }
 {
-    if !is_sheet(sheet) {
+    let Some(sheet) = Sheet::of(sheet) else {
         return Err(Refusal::BrokenShape);
-    }
+    };
     check_style_held(sheet, origin, entries, n)
 }
 
@@ -190,11 +187,10 @@ fn check_rules(lists: GroupLists, n: usize, ids: usize, entries: usize) -> Resul
     Ok(())
 }
 
-fn rules_over(sheet: &[u32], rules: &[u32], n: usize) -> bool
-    requires { sheet_shape sheet.now ≡ true }
-    ensures { result ≡ rules_over sheet.now rules.now n }
+fn rules_over(sheet: Sheet<'_>, rules: &[u32], n: usize) -> bool
+    ensures { result ≡ rules_over sheet.entry.words.now rules.now n }
 {
-    if 256 - wide(word(sheet, layout::RULES)) < n {
+    if 256 - wide(word(sheet.words, layout::RULES)) < n {
         return true;
     }
     rules.len() / 3 < n
@@ -202,13 +198,12 @@ fn rules_over(sheet: &[u32], rules: &[u32], n: usize) -> bool
 
 // 6 for the origin, 2 for the number of rules, then each rule in turn 2, 3, 6, 1, then 7, of a sheet in shape.
 pub fn check_group_held(
-    sheet: &[u32],
+    sheet: Sheet<'_>,
     origin: u32,
     lists: GroupLists,
     n: usize,
 ) -> Result<(), Refusal>
-    requires { sheet_shape sheet.now ≡ true }
-    ensures { verdict_of result ≡ group_verdict sheet.now origin (group_of lists.entry) n }
+    ensures { verdict_of result ≡ group_verdict sheet.entry.words.now origin (group_of lists.entry) n }
 {
     if 7 < origin {
         return Err(Refusal::CodeOutOfRange);
@@ -216,17 +211,17 @@ pub fn check_group_held(
     if rules_over(sheet, lists.rules, n) {
         return Err(Refusal::OverSize);
     }
-    let ids = wide(word(sheet, layout::IDS));
-    check_rules(lists, n, ids, all_entries(sheet))?;
-    check_index(sheet)
+    let ids = wide(word(sheet.words, layout::IDS));
+    check_rules(lists, n, ids, all_entries(sheet.words))?;
+    check_index(sheet.words)
 }
 
 // "Pushing a group 11, 6 for the origin, 2 for the number of rules, then each rule in turn 2 (sheet sums so far included), 3, 6, 1, then 7".
 pub fn check_group(sheet: &[u32], origin: u32, lists: GroupLists, n: usize) -> Result<(), Refusal>
     ensures { verdict_of result ≡ group_verdict sheet.now origin (group_of lists.entry) n }
 {
-    if !is_sheet(sheet) {
+    let Some(sheet) = Sheet::of(sheet) else {
         return Err(Refusal::BrokenShape);
-    }
+    };
     check_group_held(sheet, origin, lists, n)
 }

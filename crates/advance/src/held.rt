@@ -6,15 +6,14 @@ ghost use Rattle.selector.specs.Tags.{step_matches};
 ghost use Rattle.selector.specs.Rows.{row_at};
 ghost use Rattle.selector.specs.Checks.{tags_ascend};
 ghost use Rattle.sheet.specs.Layout.{steps_in, step_place, STEP-COMBINATOR, STEP-WORDS};
-ghost use Rattle.sheet.specs.Shape.{sheet_shape};
 ghost use Rattle.advance.specs.Advancing.{leaves, lists, Advanced, Room};
 ghost use Rattle.advance.specs.Collecting.{Free, Put, Kept, Puts, Walks, Least, Turned};
 
 use lent::lists::{cell, start_of};
 use lent::words::{wide, word};
 use selector::held::matches_row;
-use sheet::layout;
 use sheet::shape::step_place;
+use sheet::{Sheet, layout};
 
 // How many cursors and how many rules.
 #[derive(Clone, Copy, Debug, PartialEq, Eq)]
@@ -48,12 +47,12 @@ fn descends(sheet: &[u32], s: u32) -> bool
 }
 
 // Whether step s matches the subject.
-fn passes(sheet: &[u32], s: u32, subject: &[u32]) -> bool
-    requires sheet_value { (sheet_shape sheet.now ≡ true) × (s < steps_in sheet.now) }
+fn passes(sheet: Sheet<'_>, s: u32, subject: &[u32]) -> bool
+    requires sheet_value { s < steps_in sheet.words.now }
     requires subject_value { tags_ascend (row_at 16 subject.now 0) ≡ true }
-    ensures { result ≡ step_matches (row_at 8 sheet.now (step_place s)) (row_at 16 subject.now 0) }
+    ensures { result ≡ step_matches (row_at 8 sheet.entry.words.now (step_place s)) (row_at 16 subject.now 0) }
 {
-    matches_row(sheet, step_place(s), subject, 0)
+    matches_row(sheet.words, step_place(s), subject, 0)
 }
 
 // Whether a is the last of the first `used` numbers.
@@ -95,7 +94,7 @@ fn put_kept(sheet: &[u32], c: u32, s: u32, next: &mut [u32], used: usize) -> usi
 
 // A match moves the cursor on or, at the last step, lists the rule.
 fn put_moved(
-    sheet: &[u32],
+    sheet: Sheet<'_>,
     c: u32,
     s: u32,
     last: bool,
@@ -104,11 +103,11 @@ fn put_moved(
     listed: &mut [u32],
     counts: Counts,
 ) -> Counts
-    requires sheet_value { (sheet_shape sheet.now ≡ true) × (s < steps_in sheet.now) × (c < 2048) }
+    requires sheet_value { (s < steps_in sheet.words.now) × (c < 2048) }
     requires subject_value { tags_ascend (row_at 16 subject.now 0) ≡ true }
     requires free { Free 1 (c + 1) next.old counts.cursors }
     requires free_2 { Free 1 (c / 8) listed.old counts.matched }
-    ensures { Puts next.old counts.cursors (only (step_matches (row_at 8 sheet.now (step_place s)) (row_at 16 subject.now 0) && not last) (c + 1)) next.new result.cursors listed.old counts.matched (only (step_matches (row_at 8 sheet.now (step_place s)) (row_at 16 subject.now 0) && last) (c / 8)) listed.new result.matched }
+    ensures { Puts next.old counts.cursors (only (step_matches (row_at 8 sheet.entry.words.now (step_place s)) (row_at 16 subject.now 0) && not last) (c + 1)) next.new result.cursors listed.old counts.matched (only (step_matches (row_at 8 sheet.entry.words.now (step_place s)) (row_at 16 subject.now 0) && last) (c / 8)) listed.new result.matched }
 {
     let cursors = counts.cursors;
     let matched = counts.matched;
@@ -131,31 +130,30 @@ fn put_moved(
 
 // What the cursor c leaves and lists; nothing if it is at no step.
 fn put_one(
-    sheet: &[u32],
+    sheet: Sheet<'_>,
     c: u32,
     subject: &[u32],
     next: &mut [u32],
     listed: &mut [u32],
     counts: Counts,
 ) -> Counts
-    requires sheet_value { sheet_shape sheet.now ≡ true }
     requires subject_value { tags_ascend (row_at 16 subject.now 0) ≡ true }
     requires free { Free 2 c next.old counts.cursors }
     requires free_2 { Free 1 (c / 8) listed.old counts.matched }
-    ensures { Puts next.old counts.cursors (leaves sheet.now (row_at 16 subject.now 0) c) next.new result.cursors listed.old counts.matched (lists sheet.now (row_at 16 subject.now 0) c) listed.new result.matched }
+    ensures { Puts next.old counts.cursors (leaves sheet.entry.words.now (row_at 16 subject.now 0) c) next.new result.cursors listed.old counts.matched (lists sheet.entry.words.now (row_at 16 subject.now 0) c) listed.new result.matched }
 {
     let steps = layout::RULE_STEP_ENDS;
     let r = c / 8;
-    if word(sheet, layout::RULES) <= r {
+    if word(sheet.words, layout::RULES) <= r {
         return counts;
     }
-    let s = start_of(sheet, steps, r) + c % 8;
-    let end = cell(sheet, steps, r);
+    let s = start_of(sheet.words, steps, r) + c % 8;
+    let end = cell(sheet.words, steps, r);
     if end <= s {
         return counts;
     }
     let matched = counts.matched;
-    let cursors = put_kept(sheet, c, s, next, counts.cursors);
+    let cursors = put_kept(sheet.words, c, s, next, counts.cursors);
     put_moved(
         sheet,
         c,
@@ -213,7 +211,7 @@ fn lowest(parent: &[u32], root: &[u32], i: usize, j: usize) -> Taken
 
 // What the lowest cursor that is left leaves and lists.
 fn turn(
-    sheet: &[u32],
+    sheet: Sheet<'_>,
     parent: &[u32],
     root: &[u32],
     subject: &[u32],
@@ -221,11 +219,10 @@ fn turn(
     listed: &mut [u32],
     done: Done,
 ) -> Done
-    requires sheet_value { sheet_shape sheet.now ≡ true }
     requires subject_value { tags_ascend (row_at 16 subject.now 0) ≡ true }
-    requires walks { Walks sheet.now (row_at 16 subject.now 0) parent.now root.now next.old listed.old done.parent done.root done.counts.cursors done.counts.matched }
+    requires walks { Walks sheet.words.now (row_at 16 subject.now 0) parent.now root.now next.old listed.old done.parent done.root done.counts.cursors done.counts.matched }
     requires root_value { (ltb done.parent (length parent.now) || ltb done.root (length root.now)) ≡ true }
-    ensures { Turned sheet.now (row_at 16 subject.now 0) parent.now root.now next.old listed.old done.parent done.root done.counts.cursors done.counts.matched next.new listed.new result.parent result.root result.counts.cursors result.counts.matched }
+    ensures { Turned sheet.entry.words.now (row_at 16 subject.now 0) parent.now root.now next.old listed.old done.parent done.root done.counts.cursors done.counts.matched next.new listed.new result.parent result.root result.counts.cursors result.counts.matched }
 {
     let taken = lowest(parent, root, done.parent, done.root);
     let counts = put_one(sheet, taken.cursor, subject, next, listed, done.counts);
@@ -248,18 +245,17 @@ fn goes_on(parent: &[u32], root: &[u32], done: Done) -> bool
 
 // The cursors and the rules of the subject's state under a parent: into `next` and `listed`.
 pub fn advance(
-    sheet: &[u32],
+    sheet: Sheet<'_>,
     parent: &[u32],
     root: &[u32],
     subject: &[u32],
     next: &mut [u32],
     listed: &mut [u32],
 ) -> Counts
-    requires sheet_value { sheet_shape sheet.now ≡ true }
     requires subject_value { tags_ascend (row_at 16 subject.now 0) ≡ true }
     requires parent_value { (ascends parent.now ≡ true) × (ascends root.now ≡ true) }
-    requires room { Room sheet.now parent.now root.now (row_at 16 subject.now 0) next.old listed.old }
-    ensures { Advanced sheet.now parent.now root.now (row_at 16 subject.now 0) next.old listed.old result.cursors result.matched next.new listed.new }
+    requires room { Room sheet.words.now parent.now root.now (row_at 16 subject.now 0) next.old listed.old }
+    ensures { Advanced sheet.entry.words.now parent.now root.now (row_at 16 subject.now 0) next.old listed.old result.cursors result.matched next.new listed.new }
 {
     let mut done = Done {
         parent: 0,

@@ -14,6 +14,7 @@ ghost use Rattle.bench.specs.Winners.{best_number, place_number};
 use crate::REFUSED;
 use crate::winning::{NOBODY, direct};
 use lent::words::{copy_into, wide};
+use sheet::Sheet;
 use winners::{Best, Source};
 
 fn number_of(settled: Option<u32>) -> u32
@@ -38,7 +39,7 @@ pub fn bench_held_enter(
     ensures { EntersHeld sheet.now (table head.old states.old cursors.old matched.old transitions.old) parent row.now result (table head.new states.new cursors.new matched.new transitions.new) }
 {
     let settled = entering::held::enter_subject(
-        sheet,
+        Sheet { words: sheet },
         head,
         states,
         cursors,
@@ -87,7 +88,7 @@ pub fn bench_held_winner(
     ensures { result ≡ place_number (winner_in sheet.now (table head.now states.now cursors.now matched.now transitions.now) number property) }
 {
     let best = looking::held::winning_source(
-        sheet,
+        Sheet { words: sheet },
         head,
         states,
         cursors,
@@ -116,7 +117,7 @@ pub fn bench_held_changed(
     ensures { Holds (changed_in sheet.now (table head.now states.now cursors.now matched.now transitions.now) old new) into.old result into.new }
 {
     cascade::held::changed_properties(
-        sheet,
+        Sheet { words: sheet },
         head,
         states,
         cursors,

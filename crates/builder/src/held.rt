@@ -9,6 +9,7 @@ ghost use Rattle.builder.specs.Answers.{Pushes};
 
 use given::{EntryLists, GroupLists};
 use lent::Refusal;
+use sheet::Sheet;
 
 pub fn push_style(
     sheet: &mut [u32],
@@ -26,7 +27,7 @@ pub fn push_style(
         kinds,
         numbers,
     };
-    admit::sources::check_style_held(sheet, origin, entries, count)?;
+    admit::sources::check_style_held(Sheet { words: sheet }, origin, entries, count)?;
     group::held::put_style(sheet, origin, entries, count);
     Ok(())
 }
@@ -55,7 +56,7 @@ pub fn push_rules(
             numbers,
         },
     };
-    admit::sources::check_group_held(sheet, origin, lists, rule_count)?;
+    admit::sources::check_group_held(Sheet { words: sheet }, origin, lists, rule_count)?;
     group::held::put_group(sheet, origin, lists, rule_count);
     Ok(())
 }

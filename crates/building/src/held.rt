@@ -1,23 +1,22 @@
 // For callers that hold the sheet to its shape already.
-ghost use Rattle.std.specs.Prelude.{◌≡◌, true, List, ℕ};
-ghost use Rattle.sheet.specs.Shape.{sheet_shape};
+ghost use Rattle.std.specs.Prelude.{◌≡◌, List, ℕ};
 ghost use Rattle.table.specs.Tables.{table};
 ghost use Rattle.table.specs.Entering.{built};
 
 use crate::put_root;
+use sheet::Sheet;
 use table::held::roots;
 
 // The root alone, with this stamp and ranking, and nothing cached.
 pub fn build(
-    sheet: &[u32],
+    sheet: Sheet<'_>,
     stamp: u32,
     ranking: u32,
     head: &mut [u32],
     states: &mut [u32],
     cursors: &mut [u32],
 )
-    requires { sheet_shape sheet.now ≡ true }
-    ensures { (m t : List ℕ) → table head.new states.new cursors.new m t ≡ built sheet.now stamp ranking (table head.old states.old cursors.old m t) }
+    ensures { (m t : List ℕ) → table head.new states.new cursors.new m t ≡ built sheet.entry.words.now stamp ranking (table head.old states.old cursors.old m t) }
 {
     let mut list = [0u32; 256];
     let n = roots(sheet, &mut list);

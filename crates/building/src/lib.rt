@@ -10,7 +10,7 @@ ghost use Rattle.building.specs.Answers.{Build};
 use lent::Refusal;
 use lent::words::{copy_into, wide};
 use matcher::MatchState;
-use sheet::shape::is_sheet;
+use sheet::Sheet;
 use table::held::roots;
 use table::layout;
 
@@ -34,9 +34,9 @@ pub fn build(
 ) -> Result<(), Refusal>
     ensures { (m t : List ℕ) → Build sheet.now stamp ranking (table head.old states.old cursors.old m t) result (table head.new states.new cursors.new m t) }
 {
-    if !is_sheet(sheet) {
+    let Some(sheet) = Sheet::of(sheet) else {
         return Err(Refusal::BrokenShape);
-    }
+    };
     if 1 < ranking {
         return Err(Refusal::CodeOutOfRange);
     }

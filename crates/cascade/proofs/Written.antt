@@ -71,14 +71,14 @@ channels_held masks l d e n x h f = f ∙ ap (channels_of masks) (held_take h)
 
 -- ---- properties that depend on resources
 
-module _ (w out : List ℕ) (b : Bool) (e : b ≡ sheet_shape w) where
-  pub resources_broken : b ≡ false → Lists (resource_verdict w out) (resource_dependent w) out (Err Refusal.BrokenShape) out
+module _ (w out : List ℕ) where
+  pub resources_broken : false ≡ sheet_shape w → Lists (resource_verdict w out) (resource_dependent w) out (Err Refusal.BrokenShape) out
   unfolding resource_verdict first_of
-  resources_broken f = record { answer = rw (← e, f); memory = rw (← e, f) }
+  resources_broken e = record { answer = rw (← e); memory = rw (← e) }
 
-  pub resources_listed : b ≡ true → (l after : List ℕ) (r : Result ℕ Refusal) → l ≡ sort (resource_dependent w ++ ids_in (replicate 2048 0))
+  pub resources_listed : sheet_shape w ≡ true → (l after : List ℕ) (r : Result ℕ Refusal) → l ≡ sort (resource_dependent w ++ ids_in (replicate 2048 0))
       → Lists (first_of (too_short l out ∷ [])) l out r after → Lists (resource_verdict w out) (resource_dependent w) out r after
   unfolding resource_verdict resource_dependent first_of
-  resources_listed f l after r g u =
+  resources_listed e l after r g u =
       let q : l ≡ resource_dependent w = g ∙ rw (ids_none 2048, append-nil) (sort_ascended _ (sort_ascending _)) in
-      rw (← e, f, sym q) u
+      rw (e, sym q) u

@@ -13,6 +13,7 @@ use lent::Refusal;
 use lent::words::copy_into;
 use matcher::MatchState;
 use matcher::states::{check_state, not_a_state};
+use sheet::Sheet;
 use table::Table;
 
 // 11, 4 for the old state, 4 for the new one.
@@ -57,6 +58,7 @@ pub fn changed_properties(
     ensures { Lists (changed_verdict sheet.now (table head.now states.now cursors.now matched.now transitions.now) old.number old.stamp new.number new.stamp out.old) (changed_in sheet.now (table head.now states.now cursors.now matched.now transitions.now) old.number new.number) out.old result out.new }
 {
     check_pair(sheet, head, states, cursors, matched, transitions, old, new)?;
+    let sheet = Sheet { words: sheet };
     let mut list = [0u16; 4096];
     let n = held::changed_properties(
         sheet,
@@ -91,6 +93,7 @@ pub fn changed_channels(
     ensures { channels_told result ≡ answered (pair_verdict sheet.now (table head.now states.now cursors.now matched.now transitions.now) old.number old.stamp new.number new.stamp) (0 ∷ channels_of masks.now (changed_in sheet.now (table head.now states.now cursors.now matched.now transitions.now) old.number new.number) ∷ []) }
 {
     check_pair(sheet, head, states, cursors, matched, transitions, old, new)?;
+    let sheet = Sheet { words: sheet };
     let mut list = [0u16; 4096];
     let n = held::changed_properties(
         sheet,

@@ -1,18 +1,18 @@
 // For callers that hold the sheet and the table to their shapes already.
 ghost use Rattle.std.specs.Prelude.{◌≡◌, true, ◌<◌};
 ghost use Rattle.idset.specs.Buffers.{Holds};
-ghost use Rattle.sheet.specs.Shape.{sheet_shape};
 ghost use Rattle.table.specs.Tables.{table, states_in};
 ghost use Rattle.table.specs.Shape.{table_shape};
 ghost use Rattle.cascade.specs.Calls.{changed_in};
 
 use lent::held::list_of;
 use lent::words::word;
+use sheet::Sheet;
 use table::layout;
 
 // The properties that change from one state to another, into the front of `into`; how many there are.
 pub fn changed_properties(
-    sheet: &[u32],
+    sheet: Sheet<'_>,
     head: &[u32],
     states: &[u32],
     cursors: &[u32],
@@ -22,9 +22,9 @@ pub fn changed_properties(
     new: u32,
     into: &mut [u16; 4096],
 ) -> usize
-    requires sheet_value { (sheet_shape sheet.now ≡ true) × (table_shape sheet.now (table head.now states.now cursors.now matched.now transitions.now) ≡ true) }
+    requires sheet_value { table_shape sheet.words.now (table head.now states.now cursors.now matched.now transitions.now) ≡ true }
     requires bound { (old < states_in head.now) × (new < states_in head.now) }
-    ensures { Holds (changed_in sheet.now (table head.now states.now cursors.now matched.now transitions.now) old new) into.old result into.new }
+    ensures { Holds (changed_in sheet.entry.words.now (table head.now states.now cursors.now matched.now transitions.now) old new) into.old result into.new }
 {
     let ends = layout::MATCHED_ENDS;
     changes::held::changed(

@@ -4,7 +4,6 @@ ghost use Rattle.theory.specs.Lists.{ascends, at_most, sort, spread};
 ghost use Rattle.theory.specs.Cascade.{same_key};
 ghost use Rattle.idset.specs.Buffers.{Holds};
 ghost use Rattle.sheet.specs.Sheets.{entry_at};
-ghost use Rattle.sheet.specs.Shape.{sheet_shape};
 ghost use Rattle.winners.specs.Winners.{winning_key_of, AreRules};
 ghost use Rattle.changeset.specs.Marks.{ids_in};
 ghost use Rattle.changes.specs.Changes.{changed_of, of_resource, resources_among, resource_dependent};
@@ -15,7 +14,7 @@ use changeset::held::mark;
 use idset::held::{contains, insert};
 use lent::held::{list_of, rest};
 use lent::words::{wide, word};
-use sheet::layout;
+use sheet::{Sheet, layout};
 use winners::held::{same, winner};
 
 // The property ids of a rule go into the ascending list that stands in the first `used` words; its new length.
@@ -48,10 +47,10 @@ fn add_rules(sheet: &[u32], rules: &[u32], others: &[u32], list: &mut [u32], use
 }
 
 // Whether the property's winning key differs.
-fn differs(sheet: &[u32], ranking: u32, old: &[u32], new: &[u32], property: u32) -> bool
-    requires sheet_value { (sheet_shape sheet.now ≡ true) × (ranking ≤ 1) }
-    requires are_rules { AreRules sheet.now old.now × AreRules sheet.now new.now }
-    ensures { result ≡ not (same_key (winning_key_of sheet.now ranking old.now property) (winning_key_of sheet.now ranking new.now property)) }
+fn differs(sheet: Sheet<'_>, ranking: u32, old: &[u32], new: &[u32], property: u32) -> bool
+    requires sheet_value { ranking ≤ 1 }
+    requires are_rules { AreRules sheet.words.now old.now × AreRules sheet.words.now new.now }
+    ensures { result ≡ not (same_key (winning_key_of sheet.entry.words.now ranking old.now property) (winning_key_of sheet.entry.words.now ranking new.now property)) }
 {
     let before = winner(sheet, ranking, old, property);
     let after = winner(sheet, ranking, new, property);
@@ -59,30 +58,29 @@ fn differs(sheet: &[u32], ranking: u32, old: &[u32], new: &[u32], property: u32)
 }
 
 // The properties that have to be asked: those of rules that are listed on one side alone. How many there are.
-fn gather(sheet: &[u32], old: &[u32], new: &[u32], list: &mut [u32]) -> usize
-    requires sheet_value { sheet_shape sheet.now ≡ true }
-    requires are_rules { AreRules sheet.now old.now × AreRules sheet.now new.now }
+fn gather(sheet: Sheet<'_>, old: &[u32], new: &[u32], list: &mut [u32]) -> usize
+    requires are_rules { AreRules sheet.words.now old.now × AreRules sheet.words.now new.now }
     requires value { (ascends old.now ≡ true) × (ascends new.now ≡ true) }
     requires in_bounds { 4096 ≤ length list.old }
-    ensures { Listed sheet.now old.now new.now result list.new }
+    ensures { Listed sheet.entry.words.now old.now new.now result list.new }
 {
-    let some = add_rules(sheet, old, new, list, 0);
-    add_rules(sheet, new, old, list, some)
+    let some = add_rules(sheet.words, old, new, list, 0);
+    add_rules(sheet.words, new, old, list, some)
 }
 
 // Those of the ids whose winning key differs, into the front of `into`; how many there are.
 fn pick(
-    sheet: &[u32],
+    sheet: Sheet<'_>,
     ranking: u32,
     old: &[u32],
     new: &[u32],
     ids: &[u32],
     into: &mut [u16],
 ) -> usize
-    requires sheet_value { (sheet_shape sheet.now ≡ true) × (ranking ≤ 1) }
-    requires are_rules { AreRules sheet.now old.now × AreRules sheet.now new.now }
+    requires sheet_value { ranking ≤ 1 }
+    requires are_rules { AreRules sheet.words.now old.now × AreRules sheet.words.now new.now }
     requires ids_in_bounds { (length ids.now ≤ length into.old) × (at_most 65535 ids.now ≡ true) }
-    ensures { Holds (keep (differing sheet.now ranking old.now new.now) ids.now) into.old result into.new }
+    ensures { Holds (keep (differing sheet.entry.words.now ranking old.now new.now) ids.now) into.old result into.new }
 {
     let mut n = 0;
     for &id in ids {
@@ -96,16 +94,16 @@ fn pick(
 
 // `StyleCascade::changed_properties`, into the front of `into`; how many there are. Only properties of rules that are listed on one side alone can change.
 pub fn changed(
-    sheet: &[u32],
+    sheet: Sheet<'_>,
     ranking: u32,
     old: &[u32],
     new: &[u32],
     into: &mut [u16; 4096],
 ) -> usize
-    requires sheet_value { (sheet_shape sheet.now ≡ true) × (ranking ≤ 1) }
-    requires are_rules { AreRules sheet.now old.now × AreRules sheet.now new.now }
+    requires sheet_value { ranking ≤ 1 }
+    requires are_rules { AreRules sheet.words.now old.now × AreRules sheet.words.now new.now }
     requires value { (ascends old.now ≡ true) × (ascends new.now ≡ true) }
-    ensures { Holds (changed_of sheet.now ranking old.now new.now) into.old result into.new }
+    ensures { Holds (changed_of sheet.entry.words.now ranking old.now new.now) into.old result into.new }
 {
     let mut list = [0u32; 4096];
     let n = gather(sheet, old, new, &mut list);
@@ -133,18 +131,17 @@ fn mark_resources(sheet: &[u32], base: usize, room: usize, n: usize, marks: &mut
 }
 
 // `StyleCascade::resource_dependent_properties`, marked.
-pub fn resources(sheet: &[u32], marks: &mut [u32; 2048])
-    requires { sheet_shape sheet.now ≡ true }
-    ensures { ids_in marks.new ≡ sort (resource_dependent sheet.now ++ ids_in marks.old) }
+pub fn resources(sheet: Sheet<'_>, marks: &mut [u32; 2048])
+    ensures { ids_in marks.new ≡ sort (resource_dependent sheet.entry.words.now ++ ids_in marks.old) }
 {
-    let styles = wide(word(sheet, layout::STYLE_ENTRIES));
-    let rules = wide(word(sheet, layout::ENTRIES));
+    let styles = wide(word(sheet.words, layout::STYLE_ENTRIES));
+    let rules = wide(word(sheet.words, layout::ENTRIES));
     mark_resources(
-        sheet,
+        sheet.words,
         layout::STYLE_ENTRY,
         layout::STYLE_ENTRY_ROOM,
         styles,
         marks,
     );
-    mark_resources(sheet, layout::ENTRY, layout::ENTRY_ROOM, rules, marks);
+    mark_resources(sheet.words, layout::ENTRY, layout::ENTRY_ROOM, rules, marks);
 }

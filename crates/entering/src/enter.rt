@@ -11,6 +11,7 @@ use lent::Refusal;
 use matcher::MatchState;
 use matcher::states::check_state;
 use selector::held::{row_ascends, row_fits};
+use sheet::Sheet;
 use table::Table;
 use typed::SelectorInputs;
 
@@ -50,6 +51,7 @@ pub fn enter_subject(
         transitions,
     };
     check_front(sheet, table, parent, &row)?;
+    let sheet = Sheet { words: sheet };
     let number = held::enter_subject(
         sheet,
         head,

@@ -2,7 +2,6 @@
 ghost use Rattle.std.specs.Prelude.{◌≡◌, true, ◌&&◌, List, ℕ, ◌<◌, length, leb};
 ghost use Rattle.selector.specs.Rows.{row_at};
 ghost use Rattle.selector.specs.Checks.{row_fits, tags_ascend};
-ghost use Rattle.sheet.specs.Shape.{sheet_shape};
 ghost use Rattle.advance.specs.Advancing.{Room};
 ghost use Rattle.settle.specs.Settling.{Settles};
 ghost use Rattle.table.specs.Tables.{table, states_in, cursors_at};
@@ -16,11 +15,12 @@ use lent::held::list_of;
 use lent::lists::cell;
 use linking::held::keep;
 use settle::held::settle;
+use sheet::Sheet;
 use table::layout;
 
 // The number of the subject's state under the parent: of an equal one, or of a new one. Its lists go through two buffers.
 fn settle_in(
-    sheet: &[u32],
+    sheet: Sheet<'_>,
     head: &mut [u32],
     states: &mut [u32],
     cursors: &mut [u32],
@@ -30,10 +30,10 @@ fn settle_in(
     next: &mut [u32],
     listed: &mut [u32],
 ) -> Option<u32>
-    requires sheet_value { (sheet_shape sheet.now ≡ true) × Parents sheet.now states.old cursors.old parent }
+    requires sheet_value { Parents sheet.words.now states.old cursors.old parent }
     requires row_value { tags_ascend (row_at 16 row.now 0) ≡ true }
-    requires room { Room sheet.now (cursors_at states.old cursors.old parent) (cursors_at states.old cursors.old 0) (row_at 16 row.now 0) next.old listed.old }
-    ensures { (t : List ℕ) → Settles (table head.old states.old cursors.old matched.old t) (next_state sheet.now (table head.old states.old cursors.old matched.old t) parent (row_at 16 row.now 0)) result (table head.new states.new cursors.new matched.new t) }
+    requires room { Room sheet.words.now (cursors_at states.old cursors.old parent) (cursors_at states.old cursors.old 0) (row_at 16 row.now 0) next.old listed.old }
+    ensures { (t : List ℕ) → Settles (table head.old states.old cursors.old matched.old t) (next_state sheet.entry.words.now (table head.old states.old cursors.old matched.old t) parent (row_at 16 row.now 0)) result (table head.new states.new cursors.new matched.new t) }
 {
     let ends = layout::CURSOR_ENDS;
     let counts = advance(
@@ -69,7 +69,7 @@ fn are_few(states: &[u32], cursors: &[u32], parent: u32) -> bool
 
 // The same with buffers of its own: small ones where they do, for to clear large ones takes longer than all the rest; else as many words as there can be cursors and rules.
 fn settle_next(
-    sheet: &[u32],
+    sheet: Sheet<'_>,
     head: &mut [u32],
     states: &mut [u32],
     cursors: &mut [u32],
@@ -77,9 +77,9 @@ fn settle_next(
     parent: u32,
     row: &[u32],
 ) -> Option<u32>
-    requires sheet_value { (sheet_shape sheet.now ≡ true) × Parents sheet.now states.old cursors.old parent }
+    requires sheet_value { Parents sheet.words.now states.old cursors.old parent }
     requires row_value { tags_ascend (row_at 16 row.now 0) ≡ true }
-    ensures { (t : List ℕ) → Settles (table head.old states.old cursors.old matched.old t) (next_state sheet.now (table head.old states.old cursors.old matched.old t) parent (row_at 16 row.now 0)) result (table head.new states.new cursors.new matched.new t) }
+    ensures { (t : List ℕ) → Settles (table head.old states.old cursors.old matched.old t) (next_state sheet.entry.words.now (table head.old states.old cursors.old matched.old t) parent (row_at 16 row.now 0)) result (table head.new states.new cursors.new matched.new t) }
 {
     if are_few(states, cursors, parent) {
         let mut next = [0u32; 194];
@@ -113,7 +113,7 @@ fn settle_next(
 
 // Entering the subject of a row under the state with the number `parent`: the child's number, none where there is no room.
 pub fn enter_subject(
-    sheet: &[u32],
+    sheet: Sheet<'_>,
     head: &mut [u32],
     states: &mut [u32],
     cursors: &mut [u32],
@@ -122,9 +122,9 @@ pub fn enter_subject(
     parent: u32,
     row: &[u32],
 ) -> Option<u32>
-    requires sheet_value { (sheet_shape sheet.now ≡ true) × (table_shape sheet.now (table head.old states.old cursors.old matched.old transitions.old) ≡ true) × (parent < states_in head.old) }
+    requires sheet_value { (table_shape sheet.words.now (table head.old states.old cursors.old matched.old transitions.old) ≡ true) × (parent < states_in head.old) }
     requires row_value { (row_fits 16 row.now 0 ≡ true) × (tags_ascend (row_at 16 row.now 0) ≡ true) }
-    ensures { Enters sheet.now (table head.old states.old cursors.old matched.old transitions.old) parent row.now result (table head.new states.new cursors.new matched.new transitions.new) }
+    ensures { Enters sheet.entry.words.now (table head.old states.old cursors.old matched.old transitions.old) parent row.now result (table head.new states.new cursors.new matched.new transitions.new) }
 {
     let children = layout::CHILDREN;
     if let Some(k) = cached(head, states, transitions, parent, row) {

@@ -12,6 +12,7 @@ use crate::{StyleSourceRef, held};
 use lent::Refusal;
 use matcher::MatchState;
 use matcher::states::check_state;
+use sheet::Sheet;
 use style::held::{kind_of, plain_of, resource_of};
 use style::{StyleValueKind, StyleValueRef};
 use table::Table;
@@ -39,6 +40,7 @@ pub fn winning_source_for_id(
         transitions,
     };
     check_state(sheet, table, state)?;
+    let sheet = Sheet { words: sheet };
     let best = held::winning_source(
         sheet,
         head,
@@ -80,6 +82,7 @@ fn winning_entry(
         transitions,
     };
     check_state(sheet, table, state)?;
+    let sheet = Sheet { words: sheet };
     let best = held::winning_source(
         sheet,
         head,

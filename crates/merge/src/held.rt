@@ -5,7 +5,6 @@ ghost use Rattle.std.proofs.lemmas.List.Edits.{sets};
 ghost use Rattle.theory.specs.Lists.{spread};
 ghost use Rattle.sheet.specs.Layout.{rules_in, steps_in, styles_in, step_place, RULE-ORIGIN, RULE-WORDS, STYLE-ORIGIN, STYLE-WORDS};
 ghost use Rattle.sheet.specs.Sheets.{part_at, entry_at, sheet_of};
-ghost use Rattle.sheet.specs.Shape.{sheet_shape};
 ghost use Rattle.sheet.specs.Laying.{step_words, rule_words, style_words, lay_entries, lay_rules, lay_styles};
 ghost use Rattle.given.specs.Pushing.{indexes_of, shift_style, shift_rule, cascade_verdict, next_after, pushed_cascade};
 ghost use Rattle.given.specs.Leaves.{Within, held_row, held_style_row, sum_counts};
@@ -16,16 +15,15 @@ use joining::cascades::{is_bare, largest_index};
 use lent::held::part;
 use lent::lists::cell;
 use lent::words::{copy_into, wide, word};
-use sheet::layout;
 use sheet::shape::step_place;
+use sheet::{Sheet, layout};
 
 // What is added: the other sheet, in shape, after the counts of the one that it comes into.
 #[derive(Clone, Copy)]
 struct Addition<'a> {
     c: Counts,
-    other: &'a [u32],
+    other: Sheet<'a>,
     ghost within: { Within c },
-    ghost shape: { sheet_shape other.now ≡ true },
 }
 
 // The first n entries of a pool, after e.
@@ -51,19 +49,19 @@ fn put_pool(sheet: &mut [u32], base: usize, room: usize, e: u32, other: &[u32], 
 
 // The other sheet's steps.
 fn put_held_steps(sheet: &mut [u32], a: Addition)
-    ensures { sheet.new ≡ sets sheet.old (step_place a.entry.c.steps) (flat_map step_words (spread (part_at a.entry.other.now) 0 (steps_in a.entry.other.now))) }
+    ensures { sheet.new ≡ sets sheet.old (step_place a.entry.c.steps) (flat_map step_words (spread (part_at a.entry.other.words.now) 0 (steps_in a.entry.other.words.now))) }
 {
-    let n = word(a.other, layout::STEPS);
+    let n = word(a.other.words, layout::STEPS);
     for j in 0..n {
-        let code = cell(a.other, layout::STEP_COMBINATORS, j);
-        put_step(sheet, a.c.steps + j, a.other, step_place(j), code);
+        let code = cell(a.other.words, layout::STEP_COMBINATORS, j);
+        put_step(sheet, a.c.steps + j, a.other.words, step_place(j), code);
     }
 }
 
 // The row of rule k of the other sheet, after the rules that are held, its source index and its ends raised.
 fn put_held_rule(sheet: &mut [u32], a: Addition, k: u32)
-    requires { k < rules_in a.other.now }
-    ensures { sheet.new ≡ sets sheet.old (RULE-ORIGIN + RULE-WORDS * (a.entry.c.rules + k)) (held_row a.entry.c a.entry.other.now k) }
+    requires { k < rules_in a.other.words.now }
+    ensures { sheet.new ≡ sets sheet.old (RULE-ORIGIN + RULE-WORDS * (a.entry.c.rules + k)) (held_row a.entry.c a.entry.other.words.now k) }
 {
     let origins = layout::RULE_ORIGINS;
     let sources = layout::RULE_SOURCES;
@@ -71,20 +69,20 @@ fn put_held_rule(sheet: &mut [u32], a: Addition, k: u32)
     let steps = layout::RULE_STEP_ENDS;
     let entries = layout::RULE_ENTRY_ENDS;
     let row = [
-        cell(a.other, origins, k),
-        a.c.next + cell(a.other, sources, k),
-        cell(a.other, orders, k),
-        a.c.steps + cell(a.other, steps, k),
-        a.c.entries + cell(a.other, entries, k),
+        cell(a.other.words, origins, k),
+        a.c.next + cell(a.other.words, sources, k),
+        cell(a.other.words, orders, k),
+        a.c.steps + cell(a.other.words, steps, k),
+        a.c.entries + cell(a.other.words, entries, k),
     ];
     put_row(sheet, layout::RULE_ORIGIN, wide(a.c.rules + k), &row);
 }
 
 // The rows of the other sheet's rules.
 fn put_held_rules(sheet: &mut [u32], a: Addition)
-    ensures { sheet.new ≡ sets sheet.old (RULE-ORIGIN + RULE-WORDS * a.entry.c.rules) (rule_words a.entry.c.steps a.entry.c.entries (map (shift_rule a.entry.c.next) (sheet_of a.entry.other.now).rules)) }
+    ensures { sheet.new ≡ sets sheet.old (RULE-ORIGIN + RULE-WORDS * a.entry.c.rules) (rule_words a.entry.c.steps a.entry.c.entries (map (shift_rule a.entry.c.next) (sheet_of a.entry.other.words.now).rules)) }
 {
-    let n = word(a.other, layout::RULES);
+    let n = word(a.other.words, layout::RULES);
     for k in 0..n {
         put_held_rule(sheet, a, k);
     }
@@ -92,24 +90,24 @@ fn put_held_rules(sheet: &mut [u32], a: Addition)
 
 // The row of direct style k of the other sheet.
 fn put_held_style(sheet: &mut [u32], a: Addition, k: u32)
-    requires { k < styles_in a.other.now }
-    ensures { sheet.new ≡ sets sheet.old (STYLE-ORIGIN + STYLE-WORDS * (a.entry.c.styles + k)) (held_style_row a.entry.c a.entry.other.now k) }
+    requires { k < styles_in a.other.words.now }
+    ensures { sheet.new ≡ sets sheet.old (STYLE-ORIGIN + STYLE-WORDS * (a.entry.c.styles + k)) (held_style_row a.entry.c a.entry.other.words.now k) }
 {
     let origins = layout::STYLE_ORIGINS;
     let sources = layout::STYLE_SOURCES;
     let entries = layout::STYLE_ENTRY_ENDS;
     let row = [
-        cell(a.other, origins, k),
-        a.c.next + cell(a.other, sources, k),
-        a.c.style_entries + cell(a.other, entries, k),
+        cell(a.other.words, origins, k),
+        a.c.next + cell(a.other.words, sources, k),
+        a.c.style_entries + cell(a.other.words, entries, k),
     ];
     put_row(sheet, layout::STYLE_ORIGIN, wide(a.c.styles + k), &row);
 }
 
 fn put_held_styles(sheet: &mut [u32], a: Addition)
-    ensures { sheet.new ≡ sets sheet.old (STYLE-ORIGIN + STYLE-WORDS * a.entry.c.styles) (style_words a.entry.c.style_entries (map (shift_style a.entry.c.next) (sheet_of a.entry.other.now).styles)) }
+    ensures { sheet.new ≡ sets sheet.old (STYLE-ORIGIN + STYLE-WORDS * a.entry.c.styles) (style_words a.entry.c.style_entries (map (shift_style a.entry.c.next) (sheet_of a.entry.other.words.now).styles)) }
 {
-    let n = word(a.other, layout::STYLES);
+    let n = word(a.other.words, layout::STYLES);
     for k in 0..n {
         put_held_style(sheet, a, k);
     }
@@ -117,15 +115,15 @@ fn put_held_styles(sheet: &mut [u32], a: Addition)
 
 // The other sheet's rules.
 fn put_rules(sheet: &mut [u32], a: Addition)
-    ensures { sheet.new ≡ lay_rules a.entry.c.rules a.entry.c.steps a.entry.c.entries (map (shift_rule a.entry.c.next) (sheet_of a.entry.other.now).rules) sheet.old }
+    ensures { sheet.new ≡ lay_rules a.entry.c.rules a.entry.c.steps a.entry.c.entries (map (shift_rule a.entry.c.next) (sheet_of a.entry.other.words.now).rules) sheet.old }
 {
     put_pool(
         sheet,
         layout::ENTRY,
         layout::ENTRY_ROOM,
         a.c.entries,
-        a.other,
-        word(a.other, layout::ENTRIES),
+        a.other.words,
+        word(a.other.words, layout::ENTRIES),
     );
     put_held_steps(sheet, a);
     put_held_rules(sheet, a);
@@ -133,35 +131,35 @@ fn put_rules(sheet: &mut [u32], a: Addition)
 
 // The other sheet's direct styles.
 fn put_styles(sheet: &mut [u32], a: Addition)
-    ensures { sheet.new ≡ lay_styles a.entry.c.styles a.entry.c.style_entries (map (shift_style a.entry.c.next) (sheet_of a.entry.other.now).styles) sheet.old }
+    ensures { sheet.new ≡ lay_styles a.entry.c.styles a.entry.c.style_entries (map (shift_style a.entry.c.next) (sheet_of a.entry.other.words.now).styles) sheet.old }
 {
     put_pool(
         sheet,
         layout::STYLE_ENTRY,
         layout::STYLE_ENTRY_ROOM,
         a.c.style_entries,
-        a.other,
-        word(a.other, layout::STYLE_ENTRIES),
+        a.other.words,
+        word(a.other.words, layout::STYLE_ENTRIES),
     );
     put_held_styles(sheet, a);
 }
 
 // The next source index.
 fn next_after(a: Addition) -> u32
-    ensures { result ≡ next_after a.entry.c.next (indexes_of (sheet_of a.entry.other.now)) }
+    ensures { result ≡ next_after a.entry.c.next (indexes_of (sheet_of a.entry.other.words.now)) }
 {
-    if is_bare(a.other) {
+    if is_bare(a.other.words) {
         return a.c.next;
     }
-    a.c.next + largest_index(a.other) + 1
+    a.c.next + largest_index(a.other.words) + 1
 }
 
 // The counts after.
 fn cascade_counts(a: Addition) -> Counts
-    ensures { result ≡ sum_counts a.entry.c a.entry.other.now }
+    ensures { result ≡ sum_counts a.entry.c a.entry.other.words.now }
 {
     let c = a.c;
-    let o = counts(a.other);
+    let o = counts(a.other.words);
     Counts {
         rules: c.rules + o.rules,
         steps: c.steps + o.steps,
@@ -180,7 +178,7 @@ pub fn put_cascade(sheet: &mut [u32], other: &[u32])
 {
     let a = Addition {
         c: counts(sheet),
-        other,
+        other: Sheet { words: other },
     };
     put_rules(sheet, a);
     put_styles(sheet, a);

@@ -14,8 +14,8 @@ use lent::Refusal;
 use lent::lists::{cell, start_of};
 use lent::words::{wide, word};
 use selector::{Combinator, Specificity};
-use sheet::layout;
 use sheet::shape::{is_sheet, list_length, step_place};
+use sheet::{Sheet, layout};
 use steps::SelectorStep;
 use weighed::held::weight;
 
@@ -201,5 +201,5 @@ pub fn rule_weight(sheet: &[u32], number: u32, ranking: u32) -> Result<Specifici
     if 1 < ranking {
         return Err(Refusal::CodeOutOfRange);
     }
-    Ok(weight(sheet, number, ranking))
+    Ok(weight(Sheet { words: sheet }, number, ranking))
 }

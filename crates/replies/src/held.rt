@@ -24,6 +24,7 @@ use matcher::held::matching_rules;
 use owned::SelectorInputsOwned;
 use records::Record;
 use records::held::{half, item_over, put_item};
+use sheet::Sheet;
 use table::layout;
 use typed::SelectorInputs;
 
@@ -91,6 +92,7 @@ fn take_enter(
     if kind != 10 {
         return Ok(None);
     }
+    let sheet = Sheet { words: sheet };
     let Some(child) = enter_subject(
         sheet,
         head,
@@ -124,6 +126,7 @@ fn changed_words(
     requires bound { (old < states_in head.now) × (new < states_in head.now) × (length into.old ≡ 4096) }
     ensures { (result ≡ length (changed_in sheet.now (table head.now states.now cursors.now matched.now transitions.now) old new)) × (result ≤ 4096) × (take result into.new ≡ changed_in sheet.now (table head.now states.now cursors.now matched.now transitions.now) old new) }
 {
+    let sheet = Sheet { words: sheet };
     let mut list = [0u16; 4096];
     let n = changed_properties(
         sheet,
@@ -189,6 +192,7 @@ fn tell_winner(
     requires room { Room at out.old }
     ensures { Said (winner_line sheet.now property (winner_in sheet.now (table head.now states.now cursors.now matched.now transitions.now) state property)) out.old at result out.new }
 {
+    let sheet = Sheet { words: sheet };
     let best = winning_source(
         sheet,
         head,

@@ -1,10 +1,9 @@
 // The test of a table's shape, clause by clause.
-ghost use Rattle.std.specs.Prelude.{◌≡◌, true, not, ◌&&◌, ℕ, ◌*◌, ◌<◌, length, get_or, leb, ltb};
+ghost use Rattle.std.specs.Prelude.{◌≡◌, not, ◌&&◌, ℕ, ◌*◌, ◌<◌, length, get_or, leb, ltb};
 ghost use Rattle.theory.specs.Lists.{ascends};
 ghost use Rattle.lent.specs.All.{all_below};
 ghost use Rattle.lent.specs.Pool.{ends_in, list_at};
 ghost use Rattle.selector.specs.Rows.{words_from};
-ghost use Rattle.sheet.specs.Shape.{sheet_shape};
 ghost use Rattle.table.specs.Tables.{states_in, transitions_in, subject_place};
 ghost use Rattle.table.specs.Lent.{lent};
 ghost use Rattle.table.specs.Shape.{root_there, states_held, cursors_held, matched_held, transitions_held, cursor_exists, rule_exists, root_cursors, root_matched, counts_fit, state_fine, subject_fine, transition_fine, lists_meet, states_fine, numbers_exist, root_built, table_shape};
@@ -17,7 +16,8 @@ use lent::held::list_of;
 use lent::lists::{Column, cell, start_of};
 use lent::words::{wide, word};
 use selector::held::ids;
-use sheet::shape::{end_to_end, ends_at, is_sheet};
+use sheet::Sheet;
+use sheet::shape::{end_to_end, ends_at};
 
 // ---- single words, and the room of lists
 
@@ -137,21 +137,19 @@ fn states_fine(t: Table) -> bool
 
 // ---- cursors and rules
 
-fn cursor_exists(sheet: &[u32], cursor: u32) -> bool
-    requires { sheet_shape sheet.now ≡ true }
-    ensures { result ≡ cursor_exists sheet.now cursor }
+fn cursor_exists(sheet: Sheet<'_>, cursor: u32) -> bool
+    ensures { result ≡ cursor_exists sheet.entry.words.now cursor }
 {
     let steps = sheet::layout::RULE_STEP_ENDS;
     let r = cursor / 8;
-    if word(sheet, sheet::layout::RULES) <= r {
+    if word(sheet.words, sheet::layout::RULES) <= r {
         return false;
     }
-    start_of(sheet, steps, r) + cursor % 8 < cell(sheet, steps, r)
+    start_of(sheet.words, steps, r) + cursor % 8 < cell(sheet.words, steps, r)
 }
 
-fn cursors_exist(sheet: &[u32], cursors: &[u32], n: u32) -> bool
-    requires { sheet_shape sheet.now ≡ true }
-    ensures { result ≡ all_below n (λ (i : ℕ). cursor_exists sheet.now (get_or cursors.now i 0)) }
+fn cursors_exist(sheet: Sheet<'_>, cursors: &[u32], n: u32) -> bool
+    ensures { result ≡ all_below n (λ (i : ℕ). cursor_exists sheet.entry.words.now (get_or cursors.now i 0)) }
 {
     (0..n).all(|i| cursor_exists(sheet, word(cursors, wide(i))))
 }
@@ -168,14 +166,13 @@ fn rules_exist(sheet: &[u32], matched: &[u32], n: u32) -> bool
     (0..n).all(|i| rule_exists(sheet, word(matched, wide(i))))
 }
 
-fn numbers_exist(sheet: &[u32], t: Table) -> bool
-    requires { sheet_shape sheet.now ≡ true }
-    ensures { result ≡ numbers_exist sheet.now (lent t.entry) }
+fn numbers_exist(sheet: Sheet<'_>, t: Table) -> bool
+    ensures { result ≡ numbers_exist sheet.entry.words.now (lent t.entry) }
 {
     if !cursors_exist(sheet, t.cursors, word(t.head, layout::CURSORS)) {
         return false;
     }
-    rules_exist(sheet, t.matched, word(t.head, layout::MATCHED))
+    rules_exist(sheet.words, t.matched, word(t.head, layout::MATCHED))
 }
 
 // ---- transitions
@@ -246,9 +243,8 @@ fn transitions_fine(head: &[u32], transitions: &[u32]) -> bool
 
 // ---- the root
 
-fn root_cursors(sheet: &[u32], states: &[u32], cursors: &[u32]) -> bool
-    requires { sheet_shape sheet.now ≡ true }
-    ensures { result ≡ root_cursors sheet.now states.now cursors.now }
+fn root_cursors(sheet: Sheet<'_>, states: &[u32], cursors: &[u32]) -> bool
+    ensures { result ≡ root_cursors sheet.entry.words.now states.now cursors.now }
 {
     let ends = layout::CURSOR_ENDS;
     let mut built = [0u32; 256];
@@ -263,9 +259,8 @@ fn root_matched(states: &[u32], matched: &[u32]) -> bool
     list_of(states, ends, matched, 0).len() == 0
 }
 
-fn root_built(sheet: &[u32], t: Table) -> bool
-    requires { sheet_shape sheet.now ≡ true }
-    ensures { result ≡ root_built sheet.now (lent t.entry) }
+fn root_built(sheet: Sheet<'_>, t: Table) -> bool
+    ensures { result ≡ root_built sheet.entry.words.now (lent t.entry) }
 {
     if !root_cursors(sheet, t.states, t.cursors) {
         return false;
@@ -274,9 +269,8 @@ fn root_built(sheet: &[u32], t: Table) -> bool
 }
 
 // Whether the words are a table of this sheet, which is in shape.
-fn fits_sheet(sheet: &[u32], t: Table) -> bool
-    requires { sheet_shape sheet.now ≡ true }
-    ensures { result ≡ table_shape sheet.now (lent t.entry) }
+fn fits_sheet(sheet: Sheet<'_>, t: Table) -> bool
+    ensures { result ≡ table_shape sheet.entry.words.now (lent t.entry) }
 {
     if !counts_fit(t) {
         return false;
@@ -297,8 +291,8 @@ fn fits_sheet(sheet: &[u32], t: Table) -> bool
 pub fn is_table(sheet: &[u32], t: Table) -> bool
     ensures { result ≡ not (broken sheet.now (lent t.entry)) }
 {
-    if !is_sheet(sheet) {
+    let Some(sheet) = Sheet::of(sheet) else {
         return false;
-    }
+    };
     fits_sheet(sheet, t)
 }

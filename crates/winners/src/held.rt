@@ -6,7 +6,6 @@ ghost use Rattle.theory.specs.Cascade.{winner, same_key};
 ghost use Rattle.lent.specs.Pool.{ends_in, list_at};
 ghost use Rattle.sheet.specs.Layout.{rules_in, styles_in};
 ghost use Rattle.sheet.specs.Sheets.{between, entry_at, key_of};
-ghost use Rattle.sheet.specs.Shape.{sheet_shape};
 ghost use Rattle.style.specs.Entries.{look_up};
 ghost use Rattle.keys.specs.Keys.{key_from};
 ghost use Rattle.winners.specs.Winners.{style, source_at, key_at, holds_at, winner_of, entry_of, AreRules};
@@ -20,7 +19,7 @@ use keys::held::{rule_key, style_key};
 use lent::held::{list_of, rest};
 use lent::lists::{Column, start_of};
 use lent::words::{wide, word};
-use sheet::layout;
+use sheet::{Sheet, layout};
 
 // Where the entries of a kind of source stand: the column of their lists' ends, the pool, and its room.
 #[derive(Clone, Copy)]
@@ -49,22 +48,22 @@ fn ids_in<'a>(sheet: &'a [u32], pool: Pool, k: u32) -> &'a [u32]
     list_of(sheet, pool.ends, rest(sheet, pool.base), k)
 }
 
-fn holds(sheet: &[u32], source: Source, property: u32) -> bool
-    requires { (sheet_shape sheet.now ≡ true) × (is_place sheet.now (some (place_of source)) ≡ true) }
-    ensures { result ≡ holds_at sheet.now (place_of source) property }
+fn holds(sheet: Sheet<'_>, source: Source, property: u32) -> bool
+    requires { is_place sheet.words.now (some (place_of source)) ≡ true }
+    ensures { result ≡ holds_at sheet.entry.words.now (place_of source) property }
 {
     match source {
-        Source::Style(d) => contains(ids_in(sheet, STYLE_POOL, d), property),
-        Source::Rule(r) => contains(ids_in(sheet, RULE_POOL, r), property),
+        Source::Style(d) => contains(ids_in(sheet.words, STYLE_POOL, d), property),
+        Source::Rule(r) => contains(ids_in(sheet.words, RULE_POOL, r), property),
     }
 }
 
-fn key(sheet: &[u32], ranking: u32, source: Source) -> CascadeEntryKey
-    requires { (sheet_shape sheet.now ≡ true) × (is_place sheet.now (some (place_of source)) ≡ true) × (ranking ≤ 1) }
-    ensures { key_from result ≡ key_of ranking (source_at sheet.now (place_of source)) }
+fn key(sheet: Sheet<'_>, ranking: u32, source: Source) -> CascadeEntryKey
+    requires { (is_place sheet.words.now (some (place_of source)) ≡ true) × (ranking ≤ 1) }
+    ensures { key_from result ≡ key_of ranking (source_at sheet.entry.words.now (place_of source)) }
 {
     match source {
-        Source::Style(d) => style_key(sheet, d),
+        Source::Style(d) => style_key(sheet.words, d),
         Source::Rule(r) => rule_key(sheet, r, ranking),
     }
 }
@@ -81,14 +80,14 @@ fn beats(key: CascadeEntryKey, best: Option<Best>) -> bool
 
 // The best so far, after one more source.
 fn or_source(
-    sheet: &[u32],
+    sheet: Sheet<'_>,
     ranking: u32,
     best: Option<Best>,
     source: Source,
     property: u32,
 ) -> Option<Best>
-    requires { (sheet_shape sheet.now ≡ true) × (is_place sheet.now (some (place_of source)) ≡ true) × (ranking ≤ 1) }
-    ensures { Next sheet.now ranking property (place_of source) best result }
+    requires { (is_place sheet.words.now (some (place_of source)) ≡ true) × (ranking ≤ 1) }
+    ensures { Next sheet.entry.words.now ranking property (place_of source) best result }
 {
     if !holds(sheet, source, property) {
         return best;
@@ -101,21 +100,21 @@ fn or_source(
 }
 
 // The direct style that wins among the direct styles.
-fn best_style(sheet: &[u32], ranking: u32, property: u32) -> Option<Best>
-    requires { (sheet_shape sheet.now ≡ true) × (ranking ≤ 1) }
-    ensures { Stands sheet.now ranking property (winner (key_at sheet.now ranking) (holds_at sheet.now) (spread style 0 (styles_in sheet.now)) property) result }
+fn best_style(sheet: Sheet<'_>, ranking: u32, property: u32) -> Option<Best>
+    requires { ranking ≤ 1 }
+    ensures { Stands sheet.entry.words.now ranking property (winner (key_at sheet.entry.words.now ranking) (holds_at sheet.entry.words.now) (spread style 0 (styles_in sheet.entry.words.now)) property) result }
 {
     let mut best = None;
-    for d in 0..word(sheet, layout::STYLES) {
+    for d in 0..word(sheet.words, layout::STYLES) {
         best = or_source(sheet, ranking, best, Source::Style(d), property);
     }
     best
 }
 
 // The winner among the direct styles and these rules: `StyleCascade::compute_winning_source`.
-pub fn winner(sheet: &[u32], ranking: u32, rules: &[u32], property: u32) -> Option<Best>
-    requires { (sheet_shape sheet.now ≡ true) × (ranking ≤ 1) × AreRules sheet.now rules.now }
-    ensures { Stands sheet.now ranking property (winner_of sheet.now ranking rules.now property) result }
+pub fn winner(sheet: Sheet<'_>, ranking: u32, rules: &[u32], property: u32) -> Option<Best>
+    requires { (ranking ≤ 1) × AreRules sheet.words.now rules.now }
+    ensures { Stands sheet.entry.words.now ranking property (winner_of sheet.entry.words.now ranking rules.now property) result }
 {
     let mut best = best_style(sheet, ranking, property);
     for &r in rules {
@@ -157,12 +156,12 @@ fn entry_in(sheet: &[u32], pool: Pool, k: u32, property: u32) -> Option<Found>
 }
 
 // The winner's entry of the property, and no other's.
-pub fn entry(sheet: &[u32], best: Option<Best>, property: u32) -> Option<Found>
-    requires { (sheet_shape sheet.now ≡ true) × (is_place sheet.now (place_in best) ≡ true) }
-    ensures { Finds (entry_of sheet.now (place_in best) property) result }
+pub fn entry(sheet: Sheet<'_>, best: Option<Best>, property: u32) -> Option<Found>
+    requires { is_place sheet.words.now (place_in best) ≡ true }
+    ensures { Finds (entry_of sheet.entry.words.now (place_in best) property) result }
 {
     match best?.source {
-        Source::Style(d) => entry_in(sheet, STYLE_POOL, d, property),
-        Source::Rule(r) => entry_in(sheet, RULE_POOL, r, property),
+        Source::Style(d) => entry_in(sheet.words, STYLE_POOL, d, property),
+        Source::Rule(r) => entry_in(sheet.words, RULE_POOL, r, property),
     }
 }

@@ -10,7 +10,7 @@ returns-then-rules_over c = search (group_over, rules)
 
 pub check_rules-requires : goal.check_rules-requires
 check_rules-requires c =
-    group_few _ c.requires _ _ _ c.rules_over.ensures c.if-rules_over.false _ _ _ c.wide-ids.ensures c.word.ensures c.all_entries.ensures
+    group_few _ c.args.sheet.in_shape _ _ _ c.rules_over.ensures c.if-rules_over.false _ _ _ c.wide-ids.ensures c.word.ensures c.all_entries.ensures
 
 pub returns-in_err-check_rules : goal.returns-in_err-check_rules
 returns-in_err-check_rules c = search (group_rule, rules)

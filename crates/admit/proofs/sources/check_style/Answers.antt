@@ -1,9 +1,9 @@
-use borrow.Author.Rules.{rules}
-use Rattle.admit.proofs.Ladders.{in_shape, style_shapeless}
+use mathlib.Core.Path.{refl}
+use Rattle.admit.proofs.Ladders.{style_shapeless}
 use Rattle.admit.proofs.sources.check_style.Goals as goal
 
-pub returns-then-not-is_sheet : goal.returns-then-not-is_sheet
-returns-then-not-is_sheet c = search (style_shapeless, rules)
+pub returns-in_default : goal.returns-in_default
+returns-in_default c = style_shapeless _ _ c.in_default.ensures.there refl _ _ _ _ _
 
-pub check_style_held-requires : goal.check_style_held-requires
-check_style_held-requires c = search (in_shape, rules)
+pub returns : goal.returns
+returns c = rw (← c.in-Some.ensures.same) c.check_style_held.ensures

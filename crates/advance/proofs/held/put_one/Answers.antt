@@ -13,8 +13,8 @@ returns-then-end-s c = search (past_steps, rules)
 
 pub put_moved-requires : goal.put_moved-requires
 put_moved-requires c =
-    let there = step_there _ _ _ c.word.ensures c.requires.sheet_value c.if-word-r.false _ c.start_of.ensures _ c.cell-end.ensures c.if-end-s.false in
-    record { sheet_value = (search rules, there, search (cursor_low, rules)); subject_value = search rules; free = c.put_kept-cursors.ensures.free; free_2 = search rules }
+    let there = step_there _ _ _ c.word.ensures c.args.sheet.in_shape c.if-word-r.false _ c.start_of.ensures _ c.cell-end.ensures c.if-end-s.false in
+    record { sheet_value = (there, search (cursor_low, rules)); subject_value = search rules; free = c.put_kept-cursors.ensures.free; free_2 = search rules }
 
 pub returns : goal.returns
 returns c =

@@ -8,9 +8,13 @@ use Rattle.cascade.proofs.change.changed_channels.Goals as goal
 pub returns-in_err-check_pair : goal.returns-in_err-check_pair
 returns-in_err-check_pair c = search (pair_refused, rules)
 
+pub invariant_of-sheet : goal.invariant_of-sheet
+invariant_of-sheet c =
+    let asked = pair_passed _ _ _ _ _ _ _ _ _ _ _ c.in_ok-check_pair.ensures refl in record { in_shape = asked.0.0 }
+
 pub changed_properties-n-requires : goal.changed_properties-n-requires
 changed_properties-n-requires c =
-    let asked = pair_passed _ _ _ _ _ _ _ _ _ _ _ c.in_ok-check_pair.ensures refl in record { sheet_value = asked.0; bound = asked.1 }
+    let asked = pair_passed _ _ _ _ _ _ _ _ _ _ _ c.in_ok-check_pair.ensures refl in record { sheet_value = asked.0.1; bound = asked.1 }
 
 pub slice_bounds-list-end : goal.slice_bounds-list-end
 slice_bounds-list-end c = search (held_within, rules)

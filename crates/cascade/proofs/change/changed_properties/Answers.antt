@@ -9,9 +9,13 @@ use Rattle.cascade.proofs.change.changed_properties.Goals as goal
 pub returns-in_err-check_pair : goal.returns-in_err-check_pair
 returns-in_err-check_pair c = record { answer = search (changed_refused, rules); memory = changed_kept _ _ _ _ _ _ _ _ _ _ _ _ c.in_err-check_pair.ensures }
 
+pub invariant_of-sheet : goal.invariant_of-sheet
+invariant_of-sheet c =
+    let asked = pair_passed _ _ _ _ _ _ _ _ _ _ _ c.in_ok-check_pair.ensures refl in record { in_shape = asked.0.0 }
+
 pub changed_properties-n-requires : goal.changed_properties-n-requires
 changed_properties-n-requires c =
-    let asked = pair_passed _ _ _ _ _ _ _ _ _ _ _ c.in_ok-check_pair.ensures refl in record { sheet_value = asked.0; bound = asked.1 }
+    let asked = pair_passed _ _ _ _ _ _ _ _ _ _ _ c.in_ok-check_pair.ensures refl in record { sheet_value = asked.0.1; bound = asked.1 }
 
 pub returns-then-out-n : goal.returns-then-out-n
 returns-then-out-n c = changed_short _ _ _ _ _ _ _ _ _ _ _ c.in_ok-check_pair.ensures _ _ _ c.changed_properties-n.ensures (omega arith)

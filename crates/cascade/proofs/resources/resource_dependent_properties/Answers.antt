@@ -1,14 +1,9 @@
-use borrow.Author.Tests.{not-true, not-false}
 use borrow.Author.Rules.{rules}
-use Rattle.building.proofs.Builds.{sheet_there}
 use Rattle.cascade.proofs.Written.{resources_broken, resources_listed}
 use Rattle.cascade.proofs.resources.resource_dependent_properties.Goals as goal
 
-pub returns-then-not-is_sheet : goal.returns-then-not-is_sheet
-returns-then-not-is_sheet c = search (resources_broken, not-true, rules)
-
-pub resources-requires : goal.resources-requires
-resources-requires c = search (sheet_there, not-false, rules)
+pub returns-in_default : goal.returns-in_default
+returns-in_default c = search (resources_broken, c.in_default.ensures.there, rules)
 
 pub returns : goal.returns
-returns c = search (resources_listed, not-false, rules)
+returns c = rw (← c.in-Some.ensures.same) (search (resources_listed, c.in-Some.sheet.in_shape, rules))

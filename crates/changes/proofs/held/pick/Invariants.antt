@@ -3,4 +3,4 @@ use Rattle.changes.proofs.Picking.{Picking}
 use Rattle.changes.proofs.held.pick.Given as goal
 
 abbrev pub invariant-loop-id : goal.invariant-loop-id
-invariant-loop-id l = Picking (differing l.sheet l.ranking l.old l.new) l.ids l.initial.into l.id-index l.n l.into
+invariant-loop-id l = Picking (differing l.sheet.words.now l.ranking l.old l.new) l.ids l.initial.into l.id-index l.n l.into

@@ -8,8 +8,11 @@ returns-in_err-check_front c =
     let q = c.row-row.ensures in
     enter_refused _ _ _ _ _ _ e _ q _ (search (refused_told, rules))
 
+pub invariant_of-sheet : goal.invariant_of-sheet
+invariant_of-sheet c = let asked = front_passed _ _ _ _ _ _ _ _ _ c.in_ok-check_front.ensures in record { in_shape = asked.0.0 }
+
 pub enter_subject-requires : goal.enter_subject-requires
-enter_subject-requires c = let asked = front_passed _ _ _ _ _ _ _ _ _ c.in_ok-check_front.ensures in record { sheet_value = asked.0; row_value = asked.1 }
+enter_subject-requires c = let asked = front_passed _ _ _ _ _ _ _ _ _ c.in_ok-check_front.ensures in record { sheet_value = asked.0.1; row_value = asked.1 }
 
 pub returns-in_err-number : goal.returns-in_err-number
 returns-in_err-number c =

@@ -7,7 +7,7 @@ use Rattle.entering.proofs.held.settle_in.Goals as goal
 
 pub advance-counts-requires : goal.advance-counts-requires
 advance-counts-requires c =
-    record { sheet_value = c.requires.sheet_value.0; subject_value = c.requires.row_value; parent_value = (rises_read _ _ c.list_of.ensures c.requires.sheet_value.1.parent_up, rises_read _ _ c.list_of-2.ensures c.requires.sheet_value.1.root_up); room = room_read _ _ _ _ _ _ _ _ c.list_of.ensures c.list_of-2.ensures c.requires.room }
+    record { subject_value = c.requires.row_value; parent_value = (rises_read _ _ c.list_of.ensures c.requires.sheet_value.parent_up, rises_read _ _ c.list_of-2.ensures c.requires.sheet_value.root_up); room = room_read _ _ _ _ _ _ _ _ c.list_of.ensures c.list_of-2.ensures c.requires.room }
 
 pub slice_bounds-settle-end : goal.slice_bounds-settle-end
 slice_bounds-settle-end c = search (held_within, rules)
@@ -23,4 +23,4 @@ slice_bounds-settle-end-4 c = sym (length-take-le _ _ (held_within c.advance-cou
 
 pub returns : goal.returns
 returns c =
-    settled_next c.advance-counts.ensures _ _ _ _ _ _ _ _ _ _ c.requires.sheet_value.1 c.list_of.ensures c.list_of-2.ensures c.settle.ensures
+    settled_next c.advance-counts.ensures _ _ _ _ _ _ _ _ _ _ c.requires.sheet_value c.list_of.ensures c.list_of-2.ensures c.settle.ensures

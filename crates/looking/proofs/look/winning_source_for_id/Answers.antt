@@ -4,8 +4,11 @@ use Rattle.looking.proofs.Verdicts.{state_passed, state_refused, state_told}
 use Rattle.looking.proofs.Winners.{nobody_told, style_told_lem, rule_told_lem}
 use Rattle.looking.proofs.look.winning_source_for_id.Goals as goal
 
+pub invariant_of-sheet : goal.invariant_of-sheet
+invariant_of-sheet c = let (e, l) = state_passed _ _ _ _ _ _ _ _ _ c.in_ok-check_state.ensures refl in record { in_shape = e.0 }
+
 pub winning_source-best-requires : goal.winning_source-best-requires
-winning_source-best-requires c = let (e, l) = state_passed _ _ _ _ _ _ _ _ _ c.in_ok-check_state.ensures refl in record { sheet_value = e; number_bound = l }
+winning_source-best-requires c = let (e, l) = state_passed _ _ _ _ _ _ _ _ _ c.in_ok-check_state.ensures refl in record { sheet_value = e.1; number_bound = l }
 
 pub returns-in_err-check_state : goal.returns-in_err-check_state
 returns-in_err-check_state c = search (state_refused, rules)

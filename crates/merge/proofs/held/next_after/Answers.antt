@@ -7,12 +7,12 @@ returns-then-is_bare c = search (next_bare, rules)
 
 pub overflow_add-result : goal.overflow_add-result
 overflow_add-result c =
-    let h = largest_small _ _ c.args.a.shape c.largest_index.ensures in
+    let h = largest_small _ _ c.args.a.other.in_shape c.largest_index.ensures in
     search rules
 
 pub overflow_add-result-2 : goal.overflow_add-result-2
 overflow_add-result-2 c =
-    let h = largest_small _ _ c.args.a.shape c.largest_index.ensures in
+    let h = largest_small _ _ c.args.a.other.in_shape c.largest_index.ensures in
     search rules
 
 pub returns : goal.returns

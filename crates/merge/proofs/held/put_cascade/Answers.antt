@@ -5,9 +5,12 @@ use Rattle.merge.proofs.Storing.{cascade_put}
 use Rattle.merge.proofs.held.put_cascade.Goals as goal
 
 pub invariant_of-a : goal.invariant_of-a
-invariant_of-a c =
+invariant_of-a c = record { in_shape = (cascade_accepted _ _ c.requires).other_shape }
+
+pub invariant_of-a-2 : goal.invariant_of-a-2
+invariant_of-a-2 c =
     let a = cascade_accepted _ _ c.requires in
-    record { within = counts_within c.counts.ensures (shaped _ a.shape); shape = a.other_shape }
+    record { within = counts_within c.counts.ensures (shaped _ a.shape) }
 
 pub returns : goal.returns
 returns c =

@@ -5,4 +5,4 @@ use Rattle.merge.proofs.Storing.{Laying}
 use Rattle.merge.proofs.held.put_held_rules.Given as goal
 
 abbrev pub invariant-loop-k : goal.invariant-loop-k
-invariant-loop-k l = Laying (held_row l.a.c l.a.other.now) (RULE-ORIGIN + RULE-WORDS * l.a.c.rules) l.n l.initial.sheet l.k l.sheet
+invariant-loop-k l = Laying (held_row l.a.c l.a.other.words.now) (RULE-ORIGIN + RULE-WORDS * l.a.c.rules) l.n l.initial.sheet l.k l.sheet

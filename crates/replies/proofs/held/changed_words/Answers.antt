@@ -6,6 +6,9 @@ use Rattle.replies.proofs.held.changed_words.Goals as goal
 
 -- `replies::held::changed_words` meets its contract. Assumes nothing.
 
+pub invariant_of-sheet : goal.invariant_of-sheet
+invariant_of-sheet c = record { in_shape = (in_shape c.requires.covered).0 }
+
 pub changed_properties-n-requires : goal.changed_properties-n-requires
 changed_properties-n-requires c = search (in_shape, rules)
 

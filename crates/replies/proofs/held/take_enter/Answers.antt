@@ -10,10 +10,15 @@ returns-in_err-checked c = steps_refused _ _ _ _ _ c.in_err-checked.was (search 
 pub returns-then-kind-ne10 : goal.returns-then-kind-ne10
 returns-then-kind-ne10 c = steps_none _ _ _ _ _ c.in_ok-checked.was c.if-kind-ne10.true
 
+pub invariant_of-sheet : goal.invariant_of-sheet
+invariant_of-sheet c =
+    let asked = enter_fine _ _ _ _ c.in_ok-checked.was c.if-kind-ne10.false c.requires.covered c.requires.parent_bound in
+    record { in_shape = asked.0.0 }
+
 pub enter_subject-requires : goal.enter_subject-requires
 enter_subject-requires c =
     let asked = enter_fine _ _ _ _ c.in_ok-checked.was c.if-kind-ne10.false c.requires.covered c.requires.parent_bound in
-    record { sheet_value = asked.0; row_value = asked.1 }
+    record { sheet_value = asked.0.1; row_value = asked.1 }
 
 pub returns-in_default : goal.returns-in_default
 returns-in_default c = steps_lacks _ _ _ _ _ c.in_ok-checked.was c.if-kind-ne10.false c.enter_subject.ensures (search rules)

@@ -4,6 +4,9 @@ use Rattle.replies.proofs.held.tell_winner.Goals as goal
 
 -- `replies::held::tell_winner` meets its contract. Assumes nothing.
 
+pub invariant_of-sheet : goal.invariant_of-sheet
+invariant_of-sheet c = record { in_shape = (in_shape c.requires.covered.0).0 }
+
 pub winning_source-best-requires : goal.winning_source-best-requires
 winning_source-best-requires c = search (in_shape, rules)
 

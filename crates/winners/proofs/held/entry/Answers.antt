@@ -4,12 +4,12 @@ use Rattle.winners.proofs.held.entry.Goals as goal
 
 pub entry_in-requires : goal.entry_in-requires
 entry_in-requires c =
-    let q = style_place _ _ _ _ c.in_ok-d.was c.requires.0 c.requires.1 c.in-Style.is in
+    let q = style_place _ _ _ _ c.in_ok-d.was c.args.sheet.in_shape c.requires c.in-Style.is in
     record { base_bound = (omega arith, omega arith, q.0); k_value = q.1 }
 
 pub entry_in-requires-in-Rule : goal.entry_in-requires-in-Rule
 entry_in-requires-in-Rule c =
-    let q = rule_place _ _ _ _ c.in_ok-d.was c.requires.0 c.requires.1 c.in-Rule.is in
+    let q = rule_place _ _ _ _ c.in_ok-d.was c.args.sheet.in_shape c.requires c.in-Rule.is in
     record { base_bound = (omega arith, omega arith, q.0); k_value = q.1 }
 
 pub returns-in_err-d : goal.returns-in_err-d
