@@ -6,7 +6,7 @@ use lent::held::part;
 use lent::words::word;
 use lines::text;
 use reading::{MatchRule, StyleEntry, read};
-use selector::Combinator;
+use selector::SelectorCombinator;
 use steps::SelectorStep;
 
 // Entry i of a source, which is a direct style where `source` is 0, else a rule.
@@ -47,10 +47,14 @@ fn step(out: &mut [u8], at: usize, answer: Result<Option<SelectorStep>, Refusal>
     }
 }
 
-fn combinator(out: &mut [u8], at: usize, answer: Result<Option<Combinator>, Refusal>) -> usize {
+fn combinator(
+    out: &mut [u8],
+    at: usize,
+    answer: Result<Option<SelectorCombinator>, Refusal>,
+) -> usize {
     match answer {
-        Ok(Some(Combinator::Child)) => say::one(out, at, b"c", 0),
-        Ok(Some(Combinator::Descendant)) => say::one(out, at, b"c", 1),
+        Ok(Some(SelectorCombinator::Child)) => say::one(out, at, b"c", 0),
+        Ok(Some(SelectorCombinator::Descendant)) => say::one(out, at, b"c", 1),
         Ok(None) => at,
         Err(refusal) => say::refused(out, at, b"c", refusal),
     }

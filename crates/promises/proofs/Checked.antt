@@ -58,7 +58,7 @@ check_told (Err BrokenShape) h = refl
 pub checks_alike : (l : List Check) → plain l ≡ true → (a b : Result ⊤ Refusal) → verdict_of a ≡ first_of l → verdict_of b ≡ first_of l → a ≡ b
 checks_alike l p a b e f =
     done_distinct a b (
-      check_told a (λ z. never_ten l p (sym e ∙ z))
-      ∙ ap (λ (n : ℕ). answered n (0 ∷ [])) (e ∙ sym f)
-      ∙ sym (check_told b (λ z. never_ten l p (sym f ∙ z)))
+    check_told a (λ z. never_ten l p (sym e ∙ z))
+    ∙ ap (λ (n : ℕ). answered n (0 ∷ [])) (e ∙ sym f)
+    ∙ sym (check_told b (λ z. never_ten l p (sym f ∙ z)))
     )

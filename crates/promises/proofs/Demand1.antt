@@ -18,7 +18,7 @@ use lib.Dec.{ltb}
 use denote.Ref.{Bor}
 use Rattle.std.specs.Prelude.{Bool, Result, Option, ⊤}
 use Rattle.lent.specs.declared.Refusal.{Refusal}
-use Rattle.selector.specs.declared.Combinator.{Combinator}
+use Rattle.selector.specs.declared.SelectorCombinator.{SelectorCombinator}
 use Rattle.steps.specs.declared.SelectorStep.{SelectorStep}
 use Rattle.reading.specs.declared.MatchRule.{MatchRule}
 use Rattle.reading.specs.declared.StyleEntry.{StyleEntry}
@@ -127,7 +127,7 @@ module _ (w : List ℕ) (number : ℕ) where
     unfolding rule_verdict
     rule_step_refuses c = refusing refl (there_accepts (ltb i (length (rule_at w number).selector)) (0 ∷ 1 ∷ []) (_, refl)) c.verdict
 
-    pub rule_combinator_refuses : (r : Result (Option Combinator) Refusal)
+    pub rule_combinator_refuses : (r : Result (Option SelectorCombinator) Refusal)
         → combinator_told r ≡ answered (rule_verdict w number) (combinator_numbers (get_elem? (rule_at w number).selector (suc i)))
         → Refusing of_rule (combinator_told r)
     unfolding rule_verdict

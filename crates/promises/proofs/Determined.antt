@@ -71,7 +71,7 @@ use Rattle.promises.proofs.Checked.{plain, plain_append, plain_below, checks_ali
 module _ {A : Type 0} where
   -- a contract that says what the answer, or the memory at exit, is. These calls have no other: `lent::Refusal`'s; those of `lent::words` and of `idset`;
   -- `lent::lists::address`, `cell`, `start_of`; `PropertyId::index`, `compare`; the constructors, `row` and `from_row` of `SelectorInputs` and `SelectorStep`;
-  -- `typed::tag_flag`, `tag_number`, `tag_from_words`, `row_words`; `Combinator::from`; those of `sheet::shape`, `table::shape`; those of `admit::sources`,
+  -- `typed::tag_flag`, `tag_number`, `tag_from_words`, `row_words`; `SelectorCombinator::from`; those of `sheet::shape`, `table::shape`; those of `admit::sources`,
   -- `joining::cascades` and `matcher::states` that don't check; `root_state`; `cursor::index_after`; `CascadeEntryKey::compare`; `ChannelSet::contains`, `is_empty`, `len`.
   pub said_determined : (x : A) → Determined (λ r. r ≡ x)
   said_determined x a b p q = p ∙ sym q

@@ -20,8 +20,8 @@ use Rattle.lent.specs.declared.Refusal.{Refusal}
 use Rattle.lent.specs.declared.Refusal.TheVariants.{CodeOutOfRange}
 use Rattle.lent.proofs.Refusals.{first_stop, first_go, first_clear, refusal_number, refused_first}
 use Rattle.std.specs.Prelude.{Ok, Err, Some, None}
-use Rattle.selector.specs.declared.Combinator.{Combinator}
-use Rattle.selector.specs.declared.Combinator.TheVariants.{Child, Descendant}
+use Rattle.selector.specs.declared.SelectorCombinator.{SelectorCombinator}
+use Rattle.selector.specs.declared.SelectorCombinator.TheVariants.{Child, Descendant}
 use Rattle.selector.specs.Rows.{comb_of, combinator_of}
 use Rattle.selector.specs.Weighing.{weight_told}
 use Rattle.selector.specs.declared.Specificity.{Specificity}
@@ -200,7 +200,7 @@ entry_is w base room e e' p k n f g h i =
 
 -- ---- a combinator
 
-pub before_is : (w : List ℕ) (s n : ℕ) → n ≡ ends_in w Layout.STEP-COMBINATOR Layout.STEP-WORDS s → (c : Combinator) → c ≡ combinator_of n
+pub before_is : (w : List ℕ) (s n : ℕ) → n ≡ ends_in w Layout.STEP-COMBINATOR Layout.STEP-WORDS s → (c : SelectorCombinator) → c ≡ combinator_of n
     → 0 ∷ combinator_number c ∷ [] ≡ combinator_numbers (some (part_at w s))
 unfolding part_at
 before_is w s n e c f = rw (f, ← e) (by (eqb n 0) refl)

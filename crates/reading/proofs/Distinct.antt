@@ -8,8 +8,8 @@ use lib.Dec.{eqb}
 use Rattle.std.specs.Prelude.{Result, Ok, Err, Option, Some, None}
 use Rattle.lent.specs.declared.Refusal.{Refusal}
 use Rattle.lent.proofs.Refusals.{number_positive, told_distinct, answer_distinct, yes_distinct, number_distinct}
-use Rattle.selector.specs.declared.Combinator.{Combinator}
-use Rattle.selector.specs.declared.Combinator.TheVariants.{Child, Descendant}
+use Rattle.selector.specs.declared.SelectorCombinator.{SelectorCombinator}
+use Rattle.selector.specs.declared.SelectorCombinator.TheVariants.{Child, Descendant}
 use Rattle.steps.specs.declared.SelectorStep.{SelectorStep}
 use Rattle.style.proofs.Distinct.{found_distinct}
 use Rattle.reading.specs.declared.MatchRule.{MatchRule}
@@ -39,15 +39,15 @@ entry_distinct =
     found_distinct _ (λ n l. record { property = n; kind = get_or l 0 0; number = get_or l 1 0 })
     (λ e. (e.property, e.kind ∷ e.number ∷ [], refl, refl))
 
-read_combinator : ℕ → List ℕ → Combinator
+read_combinator : ℕ → List ℕ → SelectorCombinator
 read_combinator n l = cond (eqb n 0) Child Descendant
 
-combinator_back : (c : Combinator) → (n : ℕ) × (l : List ℕ) × (combinator_number c ∷ [] ≡ n ∷ l) × (read_combinator n l ≡ c)
+combinator_back : (c : SelectorCombinator) → (n : ℕ) × (l : List ℕ) × (combinator_number c ∷ [] ≡ n ∷ l) × (read_combinator n l ≡ c)
 unfolding read_combinator
 combinator_back Child = (0, [], refl, refl)
 combinator_back Descendant = (1, [], refl, refl)
 
-pub combinator_distinct : (a b : Result (Option Combinator) Refusal) → combinator_told a ≡ combinator_told b → a ≡ b
+pub combinator_distinct : (a b : Result (Option SelectorCombinator) Refusal) → combinator_told a ≡ combinator_told b → a ≡ b
 combinator_distinct = found_distinct (λ c. combinator_number c ∷ []) read_combinator combinator_back
 
 -- `StepRead` determines the whole answer

@@ -8,8 +8,8 @@ use Rattle.lent.specs.declared.Refusal.{Refusal}
 use Rattle.lent.specs.Refusals.{check, first_of, one_if, answered, answer_told, yes_told, number_told}
 use Rattle.lent.specs.Pool.{start_of}
 use Rattle.selector.specs.Tags.{Tags}
-use Rattle.selector.specs.declared.Combinator.{Combinator}
-use Rattle.selector.specs.declared.Combinator.TheVariants.{Child, Descendant}
+use Rattle.selector.specs.declared.SelectorCombinator.{SelectorCombinator}
+use Rattle.selector.specs.declared.SelectorCombinator.TheVariants.{Child, Descendant}
 use Rattle.steps.specs.declared.SelectorStep.{SelectorStep}
 use Rattle.steps.specs.Steps.{asking, step_from}
 use Rattle.style.specs.Entries.{Entry}
@@ -38,11 +38,11 @@ style_told r = answer_told (λ o. found_told (λ d. d.origin ∷ d.source_index 
 abbrev pub entry_told : Result (Option StyleEntry) Refusal → List ℕ
 entry_told r = answer_told (λ o. found_told (λ e. e.property ∷ e.kind ∷ e.number ∷ []) o) r
 
-abbrev pub combinator_number : Combinator → ℕ
+abbrev pub combinator_number : SelectorCombinator → ℕ
 combinator_number Child = 0
 combinator_number Descendant = 1
 
-abbrev pub combinator_told : Result (Option Combinator) Refusal → List ℕ
+abbrev pub combinator_told : Result (Option SelectorCombinator) Refusal → List ℕ
 combinator_told r = answer_told (λ o. found_told (λ c. combinator_number c ∷ []) o) r
 
 -- that a step is there is told as 1

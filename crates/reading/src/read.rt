@@ -13,7 +13,7 @@ use crate::{DirectStyle, MatchRule, StyleEntry};
 use lent::Refusal;
 use lent::lists::{cell, start_of};
 use lent::words::{wide, word};
-use selector::{Combinator, Specificity};
+use selector::{SelectorCombinator, Specificity};
 use sheet::shape::{is_sheet, list_length, step_place};
 use sheet::{Sheet, layout};
 use steps::SelectorStep;
@@ -99,7 +99,11 @@ pub fn rule_step(sheet: &[u32], number: u32, i: u32) -> Result<Option<SelectorSt
 }
 
 // The combinator between steps i and i + 1 of a rule.
-pub fn rule_combinator(sheet: &[u32], number: u32, i: u32) -> Result<Option<Combinator>, Refusal>
+pub fn rule_combinator(
+    sheet: &[u32],
+    number: u32,
+    i: u32,
+) -> Result<Option<SelectorCombinator>, Refusal>
     ensures { combinator_told result ≡ answered (rule_verdict sheet.now number) (combinator_numbers (get_elem? (rule_at sheet.now number).selector (suc i))) }
 {
     let steps = layout::RULE_STEP_ENDS;
@@ -116,10 +120,10 @@ pub fn rule_combinator(sheet: &[u32], number: u32, i: u32) -> Result<Option<Comb
     Ok(Some(combinator_before(sheet, s)))
 }
 
-fn combinator_before(sheet: &[u32], s: u32) -> Combinator
+fn combinator_before(sheet: &[u32], s: u32) -> SelectorCombinator
     ensures { combinator_told (Ok (Some result)) ≡ combinator_numbers (some (part_at sheet.now s)) }
 {
-    Combinator::from(cell(sheet, layout::STEP_COMBINATORS, s))
+    SelectorCombinator::from(cell(sheet, layout::STEP_COMBINATORS, s))
 }
 
 // Entry e of the pool at `base`.

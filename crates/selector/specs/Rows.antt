@@ -3,8 +3,8 @@ use Rattle.std.specs.Prelude.{cond, List, ℕ, zero, suc, ◌+◌, ◌*◌, get_
 use Rattle.std.proofs.Math.Option.{Option, none, some}
 use Rattle.theory.specs.Lists.{spread}
 use Rattle.theory.specs.Paths.{Comb, child, descendant, Selector}
-use Rattle.selector.specs.declared.Combinator.{Combinator}
-use Rattle.selector.specs.declared.Combinator.TheVariants.{Child, Descendant}
+use Rattle.selector.specs.declared.SelectorCombinator.{SelectorCombinator}
+use Rattle.selector.specs.declared.SelectorCombinator.TheVariants.{Child, Descendant}
 use Rattle.selector.specs.Tags.{Tags, as_sets}
 
 -- A row is type flag, type, part flag, part, class count, pseudo count, and room for `size` classes and `size` pseudos: 6 + 2 * size words
@@ -43,7 +43,7 @@ abbrev pub comb_of : ℕ → Comb
 comb_of code = cond (eqb code 0) child descendant
 
 -- The same as the code's own
-abbrev pub combinator_of : ℕ → Combinator
+abbrev pub combinator_of : ℕ → SelectorCombinator
 combinator_of code = cond (eqb code 0) Child Descendant
 
 -- the combinator before step k: the one after step k-1

@@ -34,19 +34,19 @@ pub struct Specificity(pub u32, pub u32, pub u32, pub u32);
 
 // What stands between two steps: the next place, or any later one.
 #[derive(Clone, Copy, Debug, PartialEq, Eq)]
-pub enum Combinator {
+pub enum SelectorCombinator {
     Child,
     Descendant,
 }
 
 // 0 child, any other number descendant.
-impl From<u32> for Combinator {
+impl From<u32> for SelectorCombinator {
     ghost from_gives = { λ code combinator. combinator ≡ combinator_of code };
 
-    fn from(code: u32) -> Combinator {
+    fn from(code: u32) -> SelectorCombinator {
         if code == 0 {
-            return Combinator::Child;
+            return SelectorCombinator::Child;
         }
-        Combinator::Descendant
+        SelectorCombinator::Descendant
     }
 }
