@@ -16,7 +16,7 @@ use sheet::shape::step_place;
 use sheet::{Sheet, layout};
 
 // How many cursors and how many rules.
-#[derive(Clone, Copy)]
+#[derive(Clone, Copy, Debug, PartialEq, Eq)]
 pub struct Counts {
     pub cursors: usize,
     pub matched: usize,
@@ -265,6 +265,7 @@ pub fn advance(
             matched: 0,
         },
     };
+    // A turn takes from one list or from both, so that neither's index counts the turns.
     while goes_on(parent, root, done) {
         done = turn(sheet, parent, root, subject, next, listed, done);
     }

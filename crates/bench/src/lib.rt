@@ -14,6 +14,7 @@ ghost use Rattle.bench.specs.Numbers.{done_number, enter_number, Outcome, Builds
 use lent::Refusal;
 use lent::words::copy_into;
 use matcher::MatchState;
+use table::Table;
 use typed::SelectorInputs;
 
 pub mod held;

@@ -1,6 +1,4 @@
 // The lists of an item's words. Their lengths stand side by side, and the lists follow in the same order.
-ghost use Rattle.std.specs.Prelude.{◌≤◌, length};
-
 use lent::held::part;
 use lent::words::{wide, word};
 
@@ -36,20 +34,4 @@ fn start(words: &[u32], lists: Lists, i: usize) -> usize {
 pub(crate) fn list<'a>(words: &'a [u32], lists: Lists, i: usize) -> &'a [u32] {
     let from = start(words, lists, i);
     part(words, from, end(words, from, i))
-}
-
-// The low 16 bits.
-pub(crate) fn half(x: u32) -> u16 {
-    (x % 65536) as u16
-}
-
-// The low 16 bits of each word, as many as have a place in `into`; how many.
-pub(crate) fn halves(words: &[u32], into: &mut [u16]) -> usize
-    ensures { result ≤ length into.old }
-{
-    let n = words.len().min(into.len());
-    for (place, x) in into.iter_mut().zip(words) {
-        *place = half(*x);
-    }
-    n
 }

@@ -1,8 +1,9 @@
 // The look-ups of a style.
 ghost use Rattle.std.specs.Prelude.{◌≤◌};
 
-use crate::lists::{Lists, half, halves, list};
+use crate::lists::{Lists, list};
 use crate::tell::entry_of;
+use items::halves::{half, halves};
 use items::said::Said;
 use items::{MOST, said, say};
 use lent::Refusal;
@@ -14,25 +15,6 @@ const LOOK: Lists = Lists {
     lengths: 2,
     begin: 5,
 };
-
-fn of_yes(answer: Result<bool, Refusal>) -> Said {
-    of_count(answer.map(u32::from))
-}
-
-fn of_count(answer: Result<u32, Refusal>) -> Said {
-    match answer {
-        Ok(n) => said::two(0, n),
-        Err(refusal) => said::refused(refusal),
-    }
-}
-
-fn of_number(answer: Result<Option<u32>, Refusal>) -> Said {
-    match answer {
-        Ok(Some(n)) => said::two(0, n),
-        Ok(None) => said::one(0),
-        Err(refusal) => said::refused(refusal),
-    }
-}
 
 fn of_value_kind(answer: Result<Option<StyleValueKind>, Refusal>) -> Said {
     match answer {
@@ -77,8 +59,8 @@ fn of_property(x: Asked, out: &mut [u8], at: usize) -> usize {
     let position = lookups::position(x.properties, x.kinds, x.numbers, x.count, x.property);
     let kind = lookups::value_kind(x.properties, x.kinds, x.numbers, x.count, x.property);
     let value = lookups::value_ref(x.properties, x.kinds, x.numbers, x.count, x.property);
-    let a = said::line(out, at, b"la", of_yes(contains));
-    let b = said::line(out, a, b"lb", of_number(position));
+    let a = said::line(out, at, b"la", Said::from(contains));
+    let b = said::line(out, a, b"lb", Said::from(position));
     let c = said::line(out, b, b"lc", of_value_kind(kind));
     said::line(out, c, b"ld", of_value_ref(value))
 }
@@ -87,9 +69,9 @@ fn of_property(x: Asked, out: &mut [u8], at: usize) -> usize {
 fn look(x: Asked, out: &mut [u8], at: usize) -> usize {
     let d = of_property(x, out, at);
     let key = lookups::resource_key(x.properties, x.kinds, x.numbers, x.count, x.property);
-    let e = said::line(out, d, b"le", of_number(key));
+    let e = said::line(out, d, b"le", Said::from(key));
     let length = lookups::len(x.properties, x.kinds, x.numbers, x.count);
-    let f = said::line(out, e, b"lf", of_count(length));
+    let f = said::line(out, e, b"lf", Said::from(length));
     let listed = lookups::property_ids(x.properties, x.kinds, x.numbers, x.count);
     ids(out, f, listed)
 }

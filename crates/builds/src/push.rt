@@ -1,7 +1,9 @@
 // What is done to a sheet.
-use crate::lists::{Lists, halves, list};
+use crate::lists::{Lists, list};
 use builder::{push_cascade, push_rule, push_rules, push_style};
-use items::{MOST, say};
+use items::halves::halves;
+use items::said::Said;
+use items::{MOST, said};
 use lent::Refusal;
 use lent::words::{put, wide, word};
 
@@ -22,10 +24,7 @@ const RULE: Lists = Lists {
 
 // The tag and 0, or the refusal.
 fn pushed(out: &mut [u8], at: usize, tag: &[u8], pushing: Result<(), Refusal>) -> usize {
-    match pushing {
-        Ok(()) => say::one(out, at, tag, 0),
-        Err(refusal) => say::refused(out, at, tag, refusal),
-    }
+    said::line(out, at, tag, Said::from(pushing))
 }
 
 pub(crate) fn new(sheet: &mut [u32], out: &mut [u8], at: usize) -> usize {

@@ -28,7 +28,7 @@ fn is_state(
     same_lists(list_of(states, matched_ends, matched, k), listed)
 }
 
-// The first of n states with these lists; n if there is none.
+// The number of the state with these lists: of the first of n that has them, or else n, the number that a new one gets.
 pub fn number_for(
     states: &[u32],
     cursors: &[u32],

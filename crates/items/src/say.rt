@@ -7,12 +7,6 @@ use lent::Refusal;
 use lines::text;
 use screen::labelled;
 
-fn wide(x: u32) -> u64
-    ensures { result ≡ x }
-{
-    x as u64
-}
-
 // How many bytes may be kept.
 const KEPT: usize = 16384;
 
@@ -26,7 +20,7 @@ pub fn end(out: &mut [u8], at: usize) -> usize
 pub fn number(out: &mut [u8], at: usize, n: u32) -> usize
     ensures { SaidNumber n out.old at result out.new }
 {
-    let used = labelled(out, at, b" ", wide(n));
+    let used = labelled(out, at, b" ", u64::from(n));
     screen::send(out, used, KEPT)
 }
 

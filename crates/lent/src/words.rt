@@ -38,7 +38,7 @@ pub fn copy_into<T: Copy>(words: &mut [T], at: usize, list: &[T])
     }
 }
 
-// Half words into words.
+// Half words into words. Beside `copy_into`, since each is made wider.
 pub fn widen_into(words: &mut [u32], at: usize, list: &[u16])
     ensures { words.new ≡ sets words.old at list.now }
 {

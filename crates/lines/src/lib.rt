@@ -30,17 +30,15 @@ pub fn number(out: &mut [u8], at: usize, n: u64) -> usize
     text(out, at, &digits[..k])
 }
 
-fn wide(b: u8) -> u32
-    ensures { (result ≡ b) × (result < 256) }
-{
-    b as u32
-}
-
 // The byte at `at`, 0 past the end.
 fn byte(bytes: &[u8], at: usize) -> u32
     ensures { (result ≡ get_or bytes.now at 0) × (result < 256) }
 {
-    if at < bytes.len() { wide(bytes[at]) } else { 0 }
+    if at < bytes.len() {
+        u32::from(bytes[at])
+    } else {
+        0
+    }
 }
 
 // The word whose least byte is at `at`; a byte past the end is 0.

@@ -1,21 +1,20 @@
 -- What the look-ups of a style answer, by each way through the code. Assumes nothing.
-use mathlib.Core.Path.{◌≡◌, refl, sym, ◌∙◌}
+use mathlib.Core.Path.{◌≡◌, refl, sym}
 use mathlib.Core.Bool.{Bool, true, false, cond}
 use mathlib.Core.Option.{none, some}
 use mathlib.Core.List.{List, [], ◌∷◌}
-use Prim.Native.Nat.{ℕ, suc, ◌-◌, ◌≤◌, ◌<◌}
+use Prim.Native.Nat.{ℕ, suc, ◌≤◌, ◌<◌}
 use native.Mathlib.Omega.{arith}
-use lib.ListN.{length, get_or, take, drop}
+use lib.ListN.{length, get_or, take}
 use lib.Seq.{length-take-le}
 use lib.Dec.{ltb, eqb}
-use denote.Ref.{Bor}
-use borrow.Author.Tests.{lt-ltb, le-ltb, ltb-true, ltb-false, eq-eqb, ne_eqb, eqb-true, eqb-false}
-use Rattle.std.specs.Prelude.{Result, Ok, Option, Some, None}
+use borrow.Author.Tests.{lt-ltb, le-ltb, ltb-true, ltb-false, eqb-true, eqb-false}
+use Rattle.std.specs.Prelude.{Ok, Option, Some, None}
 use Rattle.lent.specs.declared.Refusal.{Refusal}
 use Rattle.lent.specs.Refusals.{number_of, told, answered}
-use Rattle.lent.proofs.Refusals.{number_positive, refusal_number, refused_first, accepted_first}
+use Rattle.lent.proofs.Refusals.{number_positive, refused_first, accepted_first}
 use Rattle.style.specs.Checks.{style_verdict}
-use Rattle.style.specs.Looking.{place_of, place_in, kind_of, plain_kind, plain_of, resource_kind, resource_of, position_told, position_of, containing_of, style_answer, found, Ids}
+use Rattle.style.specs.Looking.{place_of, place_in, kind_of, plain_kind, plain_of, resource_kind, resource_of, position_told, position_of, containing_of, style_answer, found}
 use Rattle.style.proofs.LookLaws.{member_place}
 use Rattle.lookups.proofs.Accepted.{accepted, kind_few}
 use Rattle.lookups.proofs.Found.{entry_at, look_found, look_none}

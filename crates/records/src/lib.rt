@@ -3,7 +3,8 @@
 
 pub mod held;
 
-// A record's kind, and the numbers of its body; 0 for one that it has not.
+// A record's kind, and the numbers of its body; 0 for one that it has not. Kinds stay numbers: specs/ reads a record of any byte by 01's table of widths,
+// and what `walk` prints is defined by them.
 #[derive(Clone, Copy)]
 pub struct Record {
     pub kind: u32,

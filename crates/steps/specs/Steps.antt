@@ -1,6 +1,6 @@
 -- Steps by value, with typed numbers, the rows that they are written to and read from, and what is answered of a step: 01, "Subjects and steps".
 -- Assumes nothing.
-use Rattle.std.specs.Prelude.{cond, not, List, [], ◌∷◌, ℕ, ◌+◌, get_or, set, ltb, Option, Some, None, Ok}
+use Rattle.std.specs.Prelude.{cond, not, List, [], ◌∷◌, ℕ, ◌+◌, get_or, set, ltb, Option, Some, Ok}
 use Rattle.theory.specs.Sizes
 use Rattle.theory.specs.Weight.{weight_of}
 use Rattle.lent.specs.Refusals.{check, first_of, answered}

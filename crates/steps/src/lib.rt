@@ -4,7 +4,7 @@
 ghost use Rattle.std.specs.Prelude.{◌≡◌, drop, Some, None};
 ghost use Rattle.selector.specs.Matching.{matching_told};
 ghost use Rattle.selector.specs.Weighing.{weighing_told};
-ghost use Rattle.steps.specs.Steps.{asking, asking_type, asking_part, asking_class, asking_pseudo, step_row, step_with, step_from, step_matching, step_weighing};
+ghost use Rattle.steps.specs.Steps.{asking, asking_type, asking_part, asking_class, asking_pseudo, added, raised, step_row, step_with, step_from, step_matching, step_weighing};
 
 use lent::Refusal;
 use lent::words::{copy_into, wide};
@@ -25,6 +25,18 @@ pub struct SelectorStep {
     pub class_count: u32,
     pub required_pseudos: [PseudoClassId; 8],
     pub pseudo_count: u32,
+}
+
+// One id more after n; the new count. From 8 on only the count tells it.
+fn add_id<T: Copy>(ids: &mut [T; 8], n: u32, id: T) -> u32
+    ensures kept { ids.new ≡ added ids.old n id }
+    ensures count { result ≡ raised n }
+{
+    if 8 <= n {
+        return 9;
+    }
+    ids[wide(n)] = id;
+    n + 1
 }
 
 impl SelectorStep {
@@ -92,32 +104,18 @@ impl SelectorStep {
         }
     }
 
-    // One class more. From 8 on only the count tells it.
+    // One class more.
     pub fn with_class(mut self, class_id: ClassId) -> Self
         ensures { result ≡ asking_class self class_id }
     {
-        let n = self.class_count;
-        if 8 <= n {
-            self.class_count = 9;
-            return self;
-        }
-        let at = wide(n);
-        self.required_classes[at] = class_id;
-        self.class_count = n + 1;
+        self.class_count = add_id(&mut self.required_classes, self.class_count, class_id);
         self
     }
 
     pub fn with_pseudo(mut self, pseudo_id: PseudoClassId) -> Self
         ensures { result ≡ asking_pseudo self pseudo_id }
     {
-        let n = self.pseudo_count;
-        if 8 <= n {
-            self.pseudo_count = 9;
-            return self;
-        }
-        let at = wide(n);
-        self.required_pseudos[at] = pseudo_id;
-        self.pseudo_count = n + 1;
+        self.pseudo_count = add_id(&mut self.required_pseudos, self.pseudo_count, pseudo_id);
         self
     }
 

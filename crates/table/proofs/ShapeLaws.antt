@@ -1,11 +1,11 @@
 -- Laws of the test of a table's shape, by each way through the code. Assumes nothing.
 use mathlib.Core.Path.{◌≡◌, ◌∙◌}
-use mathlib.Core.Bool.{Bool, true, false, not}
+use mathlib.Core.Bool.{Bool, true, false, not, ◌&&◌}
 use mathlib.Core.List.{List}
 use mathlib.Core.Logic.{inl, inr}
 use Prim.Native.Nat.{ℕ, ◌+◌, ◌-◌, ◌*◌, ◌/◌, ◌%◌, ◌≤◌, ◌<◌}
 use native.Mathlib.Omega.{arith}
-use lib.ListN.{length, get_or, take, drop}
+use lib.ListN.{length, get_or}
 use lib.Dec.{leb, ltb, eqb}
 use mir.Syntax.{w32}
 use mir.Val.{Fits}
@@ -13,13 +13,13 @@ use borrow.Author.Tests.{lt-ltb, le-ltb}
 use Rattle.theory.specs.Lists.{ascends}
 use Rattle.theory.proofs.Lists.{le_or_lt}
 use Rattle.lent.specs.Pool.{start_of}
-use Rattle.selector.specs.Rows.{row_at}
+use Rattle.selector.specs.Rows.{row_at, words_from}
 use Rattle.sheet.specs.Layout.{rules_in}
 use Rattle.sheet.specs.Sheets.{rule_step_ends}
 use Rattle.sheet.specs.Shape.{sheet_shape, ends_at}
 use Rattle.sheet.proofs.Shaped.{shaped, step_start_within}
 use Rattle.table.specs.Tables
-use Rattle.table.specs.Shape.{cursor_exists, rule_exists, type_flag_fits, part_flag_fits, classes_fit, pseudos_fit, classes_ascend, pseudos_ascend, root_matched}
+use Rattle.table.specs.Shape.{cursor_exists, subject_fine, type_flag_fits, part_flag_fits, classes_fit, pseudos_fit, classes_ascend, pseudos_ascend, root_matched}
 use Rattle.table.proofs.Selectors.{selector_past, selector_length}
 use Rattle.table.proofs.Same.{same_none}
 
@@ -27,6 +27,9 @@ use Rattle.table.proofs.Same.{same_none}
 
 pub leb_read : (n x a : ℕ) → x ≡ a → leb n x ≡ leb n a
 leb_read n x a e = rw e
+
+pub leb_read_left : (n x a : ℕ) → x ≡ a → leb x n ≡ leb a n
+leb_read_left n x a e = rw e
 
 pub leb_wide : (x x' a n : ℕ) → x' ≡ x → x ≡ a → leb x' n ≡ leb a n
 leb_wide x x' a n e f = rw (e, f)
@@ -68,41 +71,17 @@ module _ (w : List ℕ) (c n : ℕ) (e : n ≡ rules_in w) where
         let l : c / 8 < rules_in w = omega arith in
         rw (selector_length w (c / 8) l, ← f, ← g) (ltb_same (from + c % 8) to (c % 8) (to - from) (λ k. omega arith) (λ k. omega arith))
 
--- the number at i
-module _ (w l : List ℕ) (i i' x : ℕ) (b : Bool) (e : i' ≡ i) (f : x ≡ get_or l i' 0) where
-  pub cursor_read : b ≡ cursor_exists w x → b ≡ cursor_exists w (get_or l i 0)
-  cursor_read g = g ∙ rw (f, e)
-
-  pub rule_read : b ≡ rule_exists w x → b ≡ rule_exists w (get_or l i 0)
-  rule_read g = g ∙ rw (f, e)
-
 -- ---- the subject of a transition
 
-module _ (t : List ℕ) (k at : ℕ) (q : at ≡ Tables.subject_place k) where
-  pub type_flag : (x : ℕ) → x ≡ get_or t at 0 → leb x 1 ≡ type_flag_fits t k
-  unfolding type_flag_fits
-  type_flag x e = rw (e, q)
-
-  pub part_flag : (x : ℕ) → x ≡ get_or t (at + 2) 0 → leb x 1 ≡ part_flag_fits t k
-  unfolding part_flag_fits
-  part_flag x e = rw (e, q)
-
-  pub classes_few : (x : ℕ) → x ≡ get_or t (at + 4) 0 → leb x 16 ≡ classes_fit t k
-  unfolding classes_fit
-  classes_few x e = rw (e, q)
-
-  pub pseudos_few : (x : ℕ) → x ≡ get_or t (at + 5) 0 → leb x 16 ≡ pseudos_fit t k
-  unfolding pseudos_fit
-  pseudos_few x e = rw (e, q)
-
-  module _ (n n' : ℕ) (l : List ℕ) (b : Bool) (e : n' ≡ n) (s : b ≡ ascends l) where
-    pub classes_rise : n ≡ get_or t (at + 4) 0 → l ≡ take (at + 6 + n' - (at + 6)) (drop (at + 6) t) → b ≡ classes_ascend t k
-    unfolding classes_ascend row_at
-    classes_rise f p = let z : at + 6 + n' - (at + 6) ≡ n = omega arith in rw (← q, ← f, ← (rw z at p)) s
-
-    pub pseudos_rise : n ≡ get_or t (at + 5) 0 → l ≡ take (at + 22 + n' - (at + 22)) (drop (at + 22) t) → b ≡ pseudos_ascend t k
-    unfolding pseudos_ascend row_at
-    pseudos_rise f p = let z : at + 22 + n' - (at + 22) ≡ n = omega arith in rw (← q, ← f, ← (rw z at p)) s
+-- its tests, by the place that was worked out
+pub subject_tests : (t : List ℕ) (k at : ℕ) → at ≡ Tables.subject_place k
+    → subject_fine t k ≡ (leb (get_or t at 0) 1
+    && (leb (get_or t (at + 2) 0) 1
+    && (leb (get_or t (at + 4) 0) 16
+    && (leb (get_or t (at + 5) 0) 16
+    && (ascends (words_from t (at + 6) (get_or t (at + 4) 0)) && ascends (words_from t (at + 22) (get_or t (at + 5) 0)))))))
+unfolding subject_fine type_flag_fits part_flag_fits classes_fit pseudos_fit classes_ascend pseudos_ascend row_at
+subject_tests t k at q = rw q
 
 -- ---- the root
 

@@ -1,21 +1,32 @@
 // The test of a table's shape, clause by clause.
-ghost use Rattle.std.specs.Prelude.{◌≡◌, not, ◌&&◌, List, ℕ, get_or};
+ghost use Rattle.std.specs.Prelude.{◌≡◌, not, ◌&&◌, ℕ, ◌*◌, ◌<◌, length, get_or, leb, ltb};
+ghost use Rattle.theory.specs.Lists.{ascends};
 ghost use Rattle.lent.specs.All.{all_below};
-ghost use Rattle.table.specs.Tables.{transitions_in, subject_place};
+ghost use Rattle.lent.specs.Pool.{ends_in, list_at};
+ghost use Rattle.selector.specs.Rows.{words_from};
+ghost use Rattle.table.specs.Tables.{states_in, transitions_in, subject_place};
 ghost use Rattle.table.specs.Lent.{lent};
-ghost use Rattle.table.specs.Shape.{root_there, states_fit, ranking_fits, states_held, cursors_held, matched_held, transitions_held, classes_fit, pseudos_fit, type_flag_fits, part_flag_fits, cursors_ascend, matched_ascend, classes_ascend, pseudos_ascend, cursor_exists, rule_exists, parent_exists, child_exists, root_cursors, root_matched, counts_fit, state_fine, subject_fine, transition_fine, lists_meet, states_fine, numbers_exist, root_built, table_shape};
+ghost use Rattle.table.specs.Shape.{root_there, states_held, cursors_held, matched_held, transitions_held, cursor_exists, rule_exists, root_cursors, root_matched, counts_fit, state_fine, subject_fine, transition_fine, lists_meet, states_fine, numbers_exist, root_built, table_shape};
 ghost use Rattle.table.specs.Calls.{broken};
 
 use crate::held::roots;
 use crate::{Table, layout};
 use idset::{compare, is_ascending};
 use lent::held::list_of;
-use lent::lists::{cell, start_of};
+use lent::lists::{Column, cell, start_of};
 use lent::words::{wide, word};
+use selector::held::ids;
 use sheet::Sheet;
 use sheet::shape::{end_to_end, ends_at};
 
-// ---- the head
+// ---- single words, and the room of lists
+
+// Whether the word is so much or less.
+fn is_at_most(words: &[u32], at: usize, most: u32) -> bool
+    ensures { result ≡ leb (get_or words.now at 0) most }
+{
+    word(words, at) <= most
+}
 
 fn root_there(head: &[u32]) -> bool
     ensures { result ≡ root_there head.now }
@@ -23,55 +34,38 @@ fn root_there(head: &[u32]) -> bool
     1 <= word(head, layout::STATES)
 }
 
-fn states_fit(head: &[u32]) -> bool
-    ensures { result ≡ states_fit head.now }
+// Whether as many rows as the head's word counts are in the list.
+fn rows_held(head: &[u32], at: usize, row_words: u32, list: &[u32]) -> bool
+    ensures { result ≡ leb (row_words * get_or head.now at 0) (length list.now) }
 {
-    word(head, layout::STATES) <= 512
+    wide(row_words) * wide(word(head, at)) <= list.len()
 }
 
-fn ranking_fits(head: &[u32]) -> bool
-    ensures { result ≡ ranking_fits head.now }
+// The same of single words.
+fn words_held(head: &[u32], at: usize, list: &[u32]) -> bool
+    ensures { result ≡ leb (get_or head.now at 0) (length list.now) }
 {
-    word(head, layout::RANKING) <= 1
-}
-
-fn states_held(head: &[u32], states: &[u32]) -> bool
-    ensures { result ≡ states_held head.now states.now }
-{
-    wide(layout::STATE_WORDS) * wide(word(head, layout::STATES)) <= states.len()
-}
-
-fn cursors_held(head: &[u32], cursors: &[u32]) -> bool
-    ensures { result ≡ cursors_held head.now cursors.now }
-{
-    wide(word(head, layout::CURSORS)) <= cursors.len()
-}
-
-fn matched_held(head: &[u32], matched: &[u32]) -> bool
-    ensures { result ≡ matched_held head.now matched.now }
-{
-    wide(word(head, layout::MATCHED)) <= matched.len()
-}
-
-fn transitions_held(head: &[u32], transitions: &[u32]) -> bool
-    ensures { result ≡ transitions_held head.now transitions.now }
-{
-    wide(layout::TRANSITION_WORDS) * wide(word(head, layout::TRANSITIONS)) <= transitions.len()
+    wide(word(head, at)) <= list.len()
 }
 
 fn rooms_held(t: Table) -> bool
     ensures { result ≡ (states_held t.entry.head.now t.entry.states.now && (cursors_held t.entry.head.now t.entry.cursors.now && (matched_held t.entry.head.now t.entry.matched.now && transitions_held t.entry.head.now t.entry.transitions.now))) }
 {
-    if !states_held(t.head, t.states) {
+    if !rows_held(t.head, layout::STATES, layout::STATE_WORDS, t.states) {
         return false;
     }
-    if !cursors_held(t.head, t.cursors) {
+    if !words_held(t.head, layout::CURSORS, t.cursors) {
         return false;
     }
-    if !matched_held(t.head, t.matched) {
+    if !words_held(t.head, layout::MATCHED, t.matched) {
         return false;
     }
-    transitions_held(t.head, t.transitions)
+    rows_held(
+        t.head,
+        layout::TRANSITIONS,
+        layout::TRANSITION_WORDS,
+        t.transitions,
+    )
 }
 
 fn counts_fit(t: Table) -> bool
@@ -80,10 +74,10 @@ fn counts_fit(t: Table) -> bool
     if !root_there(t.head) {
         return false;
     }
-    if !states_fit(t.head) {
+    if !is_at_most(t.head, layout::STATES, 512) {
         return false;
     }
-    if !ranking_fits(t.head) {
+    if !is_at_most(t.head, layout::RANKING, 1) {
         return false;
     }
     rooms_held(t)
@@ -91,18 +85,10 @@ fn counts_fit(t: Table) -> bool
 
 // ---- states
 
-fn cursors_ascend(states: &[u32], cursors: &[u32], k: u32) -> bool
-    ensures { result ≡ cursors_ascend states.now cursors.now k }
+fn list_ascends(words: &[u32], ends: Column, pool: &[u32], k: u32) -> bool
+    ensures { result ≡ ascends (list_at (ends_in words.now ends.base ends.stride) pool.now k) }
 {
-    let ends = layout::CURSOR_ENDS;
-    is_ascending(list_of(states, ends, cursors, k))
-}
-
-fn matched_ascend(states: &[u32], matched: &[u32], k: u32) -> bool
-    ensures { result ≡ matched_ascend states.now matched.now k }
-{
-    let ends = layout::MATCHED_ENDS;
-    is_ascending(list_of(states, ends, matched, k))
+    is_ascending(list_of(words, ends, pool, k))
 }
 
 fn state_fine(states: &[u32], cursors: &[u32], matched: &[u32], k: u32) -> bool
@@ -116,10 +102,10 @@ fn state_fine(states: &[u32], cursors: &[u32], matched: &[u32], k: u32) -> bool
     if !end_to_end(states, matched_ends, k) {
         return false;
     }
-    if !cursors_ascend(states, cursors, k) {
+    if !list_ascends(states, cursor_ends, cursors, k) {
         return false;
     }
-    matched_ascend(states, matched, k)
+    list_ascends(states, matched_ends, matched, k)
 }
 
 fn each_state_fine(states: &[u32], cursors: &[u32], matched: &[u32], n: u32) -> bool
@@ -198,94 +184,52 @@ pub fn subject_place(k: u32) -> usize
     wide(layout::SUBJECT) + wide(layout::TRANSITION_WORDS) * wide(k)
 }
 
-fn type_flag_fits(transitions: &[u32], k: u32) -> bool
-    ensures { result ≡ type_flag_fits transitions.now k }
+// Whether the ids from word `at` on ascend, as many as the word at `count` says.
+fn ids_ascend(words: &[u32], at: usize, count: usize) -> bool
+    requires { at < 1000000000000 }
+    ensures { result ≡ ascends (words_from words.now at (get_or words.now count 0)) }
 {
-    word(transitions, subject_place(k)) <= 1
-}
-
-fn part_flag_fits(transitions: &[u32], k: u32) -> bool
-    ensures { result ≡ part_flag_fits transitions.now k }
-{
-    word(transitions, subject_place(k) + 2) <= 1
-}
-
-fn classes_fit(transitions: &[u32], k: u32) -> bool
-    ensures { result ≡ classes_fit transitions.now k }
-{
-    word(transitions, subject_place(k) + 4) <= 16
-}
-
-fn pseudos_fit(transitions: &[u32], k: u32) -> bool
-    ensures { result ≡ pseudos_fit transitions.now k }
-{
-    word(transitions, subject_place(k) + 5) <= 16
-}
-
-fn classes_ascend(transitions: &[u32], k: u32) -> bool
-    ensures { result ≡ classes_ascend transitions.now k }
-{
-    let at = subject_place(k);
-    is_ascending(lent::held::part(
-        transitions,
-        at + 6,
-        at + 6 + wide(word(transitions, at + 4)),
-    ))
-}
-
-fn pseudos_ascend(transitions: &[u32], k: u32) -> bool
-    ensures { result ≡ pseudos_ascend transitions.now k }
-{
-    let at = subject_place(k);
-    is_ascending(lent::held::part(
-        transitions,
-        at + 22,
-        at + 22 + wide(word(transitions, at + 5)),
-    ))
+    is_ascending(ids(words, at, count))
 }
 
 fn subject_fine(transitions: &[u32], k: u32) -> bool
     ensures { result ≡ subject_fine transitions.now k }
 {
-    if !type_flag_fits(transitions, k) {
+    let at = subject_place(k);
+    if !is_at_most(transitions, at, 1) {
         return false;
     }
-    if !part_flag_fits(transitions, k) {
+    if !is_at_most(transitions, at + 2, 1) {
         return false;
     }
-    if !classes_fit(transitions, k) {
+    if !is_at_most(transitions, at + 4, 16) {
         return false;
     }
-    if !pseudos_fit(transitions, k) {
+    if !is_at_most(transitions, at + 5, 16) {
         return false;
     }
-    if !classes_ascend(transitions, k) {
+    if !ids_ascend(transitions, at + 6, at + 4) {
         return false;
     }
-    pseudos_ascend(transitions, k)
+    ids_ascend(transitions, at + 22, at + 5)
 }
 
-fn parent_exists(head: &[u32], transitions: &[u32], k: u32) -> bool
-    ensures { result ≡ parent_exists head.now transitions.now k }
+// Whether the state that a transition's column says exists.
+fn state_exists(head: &[u32], transitions: &[u32], column: Column, k: u32) -> bool
+    ensures { result ≡ ltb (ends_in transitions.now column.base column.stride k) (states_in head.now) }
 {
-    let parents = layout::PARENTS;
-    cell(transitions, parents, k) < word(head, layout::STATES)
-}
-
-fn child_exists(head: &[u32], transitions: &[u32], k: u32) -> bool
-    ensures { result ≡ child_exists head.now transitions.now k }
-{
-    let children = layout::CHILDREN;
-    cell(transitions, children, k) < word(head, layout::STATES)
+    cell(transitions, column, k) < word(head, layout::STATES)
 }
 
 fn transition_fine(head: &[u32], transitions: &[u32], k: u32) -> bool
     ensures { result ≡ transition_fine head.now transitions.now k }
 {
-    if !parent_exists(head, transitions, k) {
+    let parents = layout::PARENTS;
+    let children = layout::CHILDREN;
+    if !state_exists(head, transitions, parents, k) {
         return false;
     }
-    if !child_exists(head, transitions, k) {
+    if !state_exists(head, transitions, children, k) {
         return false;
     }
     subject_fine(transitions, k)

@@ -21,7 +21,7 @@ struct Walking {
     over: bool,
 }
 
-// The line is laid at the front of the buffer, and written out.
+// The line is laid at the front of the buffer, and written out; a refusal by its number, as `wording` takes it.
 pub fn say_refused(out: &mut [u8], verdict: u32, offset: u64)
     requires { length out.old ≡ 131072 }
     ensures { out.new ≡ sets out.old 0 (refused_line verdict offset) }

@@ -1,10 +1,11 @@
 // States, and what a table's states are asked: rules, winners, changes and channels.
 use crate::store::Lent;
-use crate::{half, tell};
+use crate::{buffer, tell};
 use building::root_state;
 use cascade::change::{changed_channels, changed_properties};
 use cascade::resources::resource_dependent_properties;
 use channels::ChannelSet;
+use items::halves::half;
 use items::said::Said;
 use items::{said, say};
 use lent::Refusal;
@@ -84,18 +85,10 @@ fn of_plain(answer: Result<Option<StyleValueRef>, Refusal>) -> Said {
     }
 }
 
-fn of_resource(answer: Result<Option<u32>, Refusal>) -> Said {
-    match answer {
-        Ok(Some(n)) => said::two(0, n),
-        Ok(None) => said::one(0),
-        Err(refusal) => said::refused(refusal),
-    }
-}
-
 // The winner of a property, and its entry: in full, plainly, and as a resource.
 fn winner(body: &[u32], t: Lent, out: &mut [u8], at: usize) -> usize {
     let state = state(body, 0);
-    let property = half::low(word(body, 2));
+    let property = half(word(body, 2));
     let won = winning_source_for_id(
         t.sheet,
         t.head,
@@ -139,13 +132,13 @@ fn winner(body: &[u32], t: Lent, out: &mut [u8], at: usize) -> usize {
         state,
         property,
     );
-    said::line(out, c, b"resource", of_resource(key))
+    said::line(out, c, b"resource", Said::from(key))
 }
 
 // Into as much of a buffer as word 4 says.
 fn changed(body: &[u32], t: Lent, out: &mut [u8], at: usize) -> usize {
-    let mut buffer = [half::FILLED; half::SIZE];
-    let lent = &mut buffer[..half::room(body, 4)];
+    let mut filled = [buffer::FILLED; buffer::SIZE];
+    let lent = &mut filled[..buffer::room(body, 4)];
     let answer = changed_properties(
         t.sheet,
         t.head,
@@ -157,7 +150,7 @@ fn changed(body: &[u32], t: Lent, out: &mut [u8], at: usize) -> usize {
         state(body, 2),
         lent,
     );
-    half::listed(out, at, b"changed", answer, lent)
+    buffer::listed(out, at, b"changed", answer, lent)
 }
 
 // How many channels a set names, and the lowest.
@@ -192,10 +185,10 @@ fn channels(body: &[u32], t: Lent, out: &mut [u8], at: usize) -> usize {
 
 // Into as much of a buffer as word 0 says.
 fn resources(body: &[u32], t: Lent, out: &mut [u8], at: usize) -> usize {
-    let mut buffer = [half::FILLED; half::SIZE];
-    let lent = &mut buffer[..half::room(body, 0)];
+    let mut filled = [buffer::FILLED; buffer::SIZE];
+    let lent = &mut filled[..buffer::room(body, 0)];
     let answer = resource_dependent_properties(t.sheet, lent);
-    half::listed(out, at, b"resources", answer, lent)
+    buffer::listed(out, at, b"resources", answer, lent)
 }
 
 // What is asked of a table.

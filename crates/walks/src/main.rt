@@ -6,8 +6,8 @@ use items::MOST;
 use items::held::{NONE, SIZE, finish, next};
 
 mod answer;
+mod buffer;
 mod calls;
-mod half;
 mod look;
 mod sets;
 mod store;

@@ -22,31 +22,17 @@ pub(crate) fn pieces(body: &[u32], stored: &Stored, out: &mut [u8], at: usize) -
     first(body, 4, b"t", &stored.transitions, out, m)
 }
 
-fn of_building(answer: Result<(), Refusal>) -> Said {
-    match answer {
-        Ok(()) => said::one(0),
-        Err(refusal) => said::refused(refusal),
-    }
-}
-
 pub(crate) fn building(out: &mut [u8], at: usize, answer: Result<(), Refusal>) -> usize {
-    said::line(out, at, b"build", of_building(answer))
-}
-
-fn of_pair(answer: Result<(u32, u32), Refusal>) -> Said {
-    match answer {
-        Ok((a, b)) => said::three(0, a, b),
-        Err(refusal) => said::refused(refusal),
-    }
+    said::line(out, at, b"build", Said::from(answer))
 }
 
 pub(crate) fn entering(out: &mut [u8], at: usize, answer: Result<MatchState, Refusal>) -> usize {
     let numbers = answer.map(|state| (state.number, state.stamp));
-    said::line(out, at, b"enter", of_pair(numbers))
+    said::line(out, at, b"enter", Said::from(numbers))
 }
 
 pub(crate) fn listing(out: &mut [u8], at: usize, answer: Result<(u32, u32), Refusal>) -> usize {
-    said::line(out, at, b"part", of_pair(answer))
+    said::line(out, at, b"part", Said::from(answer))
 }
 
 // The rules of a list, as the cursor yields them.

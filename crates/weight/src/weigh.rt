@@ -20,7 +20,7 @@ pub fn specificity(
     Ok(sum(steps, step_count))
 }
 
-// Ranking 1: Level 3's counts, classes and pseudos, then types and parts.
+// Ranking 1: Level 3's counts, classes and pseudos, then types and parts. The published names are two.
 pub fn level3_specificity(
     steps: &[u32],
     step_count: usize,

@@ -21,17 +21,11 @@ fn number(out: &mut [u8], at: usize, n: u64) -> usize
     lines::number(out, at, n)
 }
 
-fn wide(n: u32) -> u64
-    ensures { result ≡ n }
-{
-    n as u64
-}
-
 fn small(out: &mut [u8], at: usize, n: u32) -> usize
     requires { at + 20 ≤ length out.old }
     ensures { Said (decimal n) out.old at result out.new × (result ≤ at + 20) }
 {
-    number(out, at, wide(n))
+    number(out, at, u64::from(n))
 }
 
 fn spaced(out: &mut [u8], at: usize, list: &[u32]) -> usize
@@ -57,6 +51,7 @@ fn listed(out: &mut [u8], at: usize, list: &[u32]) -> usize
     text(out, c, b"\n")
 }
 
+// By its number: any may be said.
 pub fn refused(out: &mut [u8], at: usize, verdict: u32, offset: u64) -> usize
     requires { Room at out.old }
     ensures { Said (refused_line verdict offset) out.old at result out.new }

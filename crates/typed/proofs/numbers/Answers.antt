@@ -1,5 +1,5 @@
 use lib.ListN.{length-replicate}
-use Rattle.std.proofs.Common.{refl, ap, ◌∙◌, ℕ, ◌≡◌, ◌≢◌, ◌<◌, length, arith, below_more, get_or-set_other, get_or-set_same, length-set}
+use Rattle.std.proofs.Common.{refl, ap, ◌∙◌, ◌≢◌, ◌<◌, length, arith, below_more, get_or-set_other, get_or-set_same, length-set}
 use Rattle.std.proofs.lemmas.List.{get_or_default}
 use Rattle.typed.proofs.Laws.{spelled}
 use Rattle.typed.proofs.numbers.Goals as goal

@@ -1,4 +1,4 @@
-use Prim.Native.Nat.{◌+◌, ◌-◌, ◌*◌}
+use Prim.Native.Nat.{◌+◌, ◌*◌}
 use Rattle.sheet.specs.Layout.{RULE-ORIGIN, RULE-WORDS}
 use Rattle.given.specs.Leaves.{held_row}
 use Rattle.merge.proofs.Storing.{Laying}

@@ -1,4 +1,4 @@
-use Prim.Native.Nat.{◌+◌, ◌-◌, ◌*◌}
+use Prim.Native.Nat.{◌+◌, ◌*◌}
 use Rattle.sheet.specs.Layout.{STYLE-ORIGIN, STYLE-WORDS}
 use Rattle.given.specs.Leaves.{held_style_row}
 use Rattle.merge.proofs.Storing.{Laying}

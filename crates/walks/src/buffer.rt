@@ -1,5 +1,5 @@
 // A buffer of half words, and what an answer's list left in it.
-ghost use Rattle.std.specs.Prelude.{◌≤◌, length};
+ghost use Rattle.std.specs.Prelude.{◌≤◌};
 
 use items::said::Said;
 use items::{said, say};
@@ -12,22 +12,6 @@ pub(crate) const FILLED: u16 = 43981;
 
 // The most half words that are lent.
 pub(crate) const SIZE: usize = 8192;
-
-// The low half of a word.
-pub(crate) fn low(x: u32) -> u16 {
-    (x % 65536) as u16
-}
-
-// The low halves of a list's words, as far as there is room; how many.
-pub(crate) fn narrow(list: &[u32], into: &mut [u16]) -> usize
-    ensures { result ≤ length into.old }
-{
-    let n = list.len().min(into.len());
-    for (place, x) in into.iter_mut().zip(list) {
-        *place = low(*x);
-    }
-    n
-}
 
 fn numbers(out: &mut [u8], at: usize, list: &[u16]) -> usize {
     let mut used = at;
@@ -60,10 +44,7 @@ fn left(out: &mut [u8], at: usize, buffer: &[u16], n: usize) -> usize {
 
 // How many there are.
 pub(crate) fn of_count(answer: Result<usize, Refusal>) -> Said {
-    match answer {
-        Ok(n) => said::two(0, small(n)),
-        Err(refusal) => said::refused(refusal),
-    }
+    Said::from(answer.map(small))
 }
 
 // An answer's list.
