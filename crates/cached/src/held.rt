@@ -7,9 +7,10 @@ ghost use Rattle.table.specs.Entering.{same_tag, same_subject, leads, is_hit, ca
 
 use idset::compare;
 use lent::lists::cell;
-use lent::words::{wide, word};
+use lent::words::word;
 use selector::held::ids;
 use table::layout;
+use table::shape::subject_place;
 
 // ---- equal subjects
 
@@ -91,7 +92,7 @@ fn is_hit(transitions: &[u32], parent: u32, row: &[u32], k: u32) -> bool
     if cell(transitions, parents, k) != parent {
         return false;
     }
-    let at = wide(layout::SUBJECT) + wide(layout::TRANSITION_WORDS) * wide(k);
+    let at = subject_place(k);
     same_subject(transitions, at, row)
 }
 

@@ -12,7 +12,10 @@ pub invariant_of-sheet : goal.invariant_of-sheet
 invariant_of-sheet c = let asked = front_passed _ _ _ _ _ _ _ _ _ c.in_ok-check_front.ensures in record { in_shape = asked.0.0 }
 
 pub enter_subject-requires : goal.enter_subject-requires
-enter_subject-requires c = let asked = front_passed _ _ _ _ _ _ _ _ _ c.in_ok-check_front.ensures in record { sheet_value = asked.0.1; row_value = asked.1 }
+enter_subject-requires c =
+    let (s, r) = front_passed _ _ _ _ _ _ _ _ _ c.in_ok-check_front.ensures in
+    let (_, t, p) = s in
+    record { sheet_value = (t, p); row_value = r }
 
 pub returns-in_err-number : goal.returns-in_err-number
 returns-in_err-number c =

@@ -4,8 +4,8 @@ use Rattle.looking.proofs.held.winning_source.Goals as goal
 
 pub winner-requires : goal.winner-requires
 winner-requires c =
-    let e = (c.args.sheet.in_shape, c.requires.sheet_value) in let l = c.requires.number_bound in
-    (ranking_fits_lem _ _ _ _ _ _ e _ c.word.ensures, rules_are _ _ _ _ _ _ e _ l _ c.list_of-rules.ensures)
+    let l = c.requires.number_bound in
+    (ranking_fits_lem _ _ _ _ _ _ (c.args.sheet.in_shape, c.requires.sheet_value) _ c.word.ensures, rules_are _ _ _ _ _ _ (c.args.sheet.in_shape, c.requires.sheet_value) _ l _ c.list_of-rules.ensures)
 
 pub returns : goal.returns
 returns c = search (winner_stands, rules)

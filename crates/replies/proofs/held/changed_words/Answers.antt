@@ -10,7 +10,7 @@ pub invariant_of-sheet : goal.invariant_of-sheet
 invariant_of-sheet c = record { in_shape = (in_shape c.requires.covered).0 }
 
 pub changed_properties-n-requires : goal.changed_properties-n-requires
-changed_properties-n-requires c = search (in_shape, rules)
+changed_properties-n-requires c = let (a, b, _) = c.requires.bound in record { sheet_value = (in_shape c.requires.covered).1; bound = (a, b) }
 
 pub slice_bounds-list-end : goal.slice_bounds-list-end
 slice_bounds-list-end c = search (held_within, rules)

@@ -17,8 +17,9 @@ invariant_of-sheet c =
 
 pub enter_subject-requires : goal.enter_subject-requires
 enter_subject-requires c =
-    let asked = enter_fine _ _ _ _ c.in_ok-checked.was c.if-kind-ne10.false c.requires.covered c.requires.parent_bound in
-    record { sheet_value = asked.0.1; row_value = asked.1 }
+    let (s, r) = enter_fine _ _ _ _ c.in_ok-checked.was c.if-kind-ne10.false c.requires.covered c.requires.parent_bound in
+    let (_, t, p) = s in
+    record { sheet_value = (t, p); row_value = r }
 
 pub returns-in_default : goal.returns-in_default
 returns-in_default c = steps_lacks _ _ _ _ _ c.in_ok-checked.was c.if-kind-ne10.false c.enter_subject.ensures (search rules)
