@@ -11,7 +11,7 @@ use lib.ListN.{length, get_or, drop}
 use lib.Seq.{sets, sets-eq}
 use lib.Dec.{ltb, eqb}
 use borrow.Author.Tests.{ltb-true, ltb-false, le-ltb, lt-ltb, eqb-true}
-use Rattle.std.specs.Prelude.{Result, Ok, Err}
+use Rattle.std.specs.Prelude.{Result, Ok}
 use Rattle.std.specs.Prelude.{Option as Optional}
 use Rattle.lent.specs.declared.Refusal.{Refusal}
 use Rattle.matcher.specs.declared.MatchState.{MatchState}

@@ -8,7 +8,7 @@ use native.Mathlib.Omega.{arith}
 use lib.Dec.{eqb}
 use borrow.Author.Tests.{eq-eqb, not-true}
 use Rattle.std.specs.Prelude.{Result, Ok, Err, ⊤}
-use Rattle.theory.proofs.Lists.{and_left, and_right, and_both}
+use Rattle.theory.proofs.Lists.{and_left, and_right}
 use Rattle.lent.specs.declared.Refusal.{Refusal}
 use Rattle.lent.specs.declared.Refusal.TheVariants.{NotAscending, OverSize, CombinatorCount, NotAState, NoRoom, CodeOutOfRange, NoSourceIndex, BufferTooShort, NoSuchRule, BadRecord, BrokenShape}
 use Rattle.lent.specs.Refusals.{Check, first_of, checks_below, answered, done_told, verdict_of}
@@ -21,7 +21,7 @@ plain (c ∷ l) = not (eqb c.number 10) && plain l
 
 pub plain_append : (a b : List Check) → plain a ≡ true → plain b ≡ true → plain (a ++ b) ≡ true
 plain_append [] b p q = q
-plain_append (c ∷ a) b p q = and_both (and_left (not (eqb c.number 10)) _ p) (plain_append a b (and_right (not (eqb c.number 10)) _ p) q)
+plain_append (c ∷ a) b p q = rw (and_left (not (eqb c.number 10)) _ p) (plain_append a b (and_right (not (eqb c.number 10)) _ p) q)
 
 pub plain_below : (checks : ℕ → List Check) → ((k : ℕ) → plain (checks k) ≡ true) → (n : ℕ) → plain (checks_below n checks) ≡ true
 unfolding checks_below
@@ -29,14 +29,14 @@ plain_below checks p zero = refl
 plain_below checks p (suc n) = plain_append (checks_below n checks) (checks n) (plain_below checks p n) (p n)
 
 never_ten : (l : List Check) → plain l ≡ true → first_of l ≡ 10 → ⊥
-never_ten [] p e = let z : 0 ≡ 10 = unfold first_of in e in omega arith
+never_ten [] p e = let z : ◌≡◌ {A = ℕ} 0 10 = (unfold first_of in e) in omega arith
 never_ten (c ∷ l) p e = by c.fails refl (never_ten l (and_right (not (eqb c.number 10)) _ p))
   where
     by : (t : Bool) → c.fails ≡ t → (first_of l ≡ 10 → ⊥) → ⊥
     by true f r =
         let z : c.number ≡ 10 = sym (first_here c l f) ∙ e in
-        let y : eqb c.number 10 ≡ false = not-true _ (and_left (not (eqb c.number 10)) _ p) in
-        let x : true ≡ false = sym (eq-eqb c.number 10 z) ∙ y in
+        let y : eqb c.number 10 ≡ false = not-true (eqb c.number 10) (and_left (not (eqb c.number 10)) _ p) in
+        let x : ◌≡◌ {A = Bool} true false = sym (eq-eqb c.number 10 z) ∙ y in
         cc
     by false f r = r (sym (first_next c l f) ∙ e)
 

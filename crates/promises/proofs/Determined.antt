@@ -2,7 +2,7 @@
 -- A slice's words before the call stand for `x.now` (`x.old` where it is lent to write), those after it for `x.new`; a slice that is not lent to write stays as it is.
 use mathlib.Core.Path.{◌≡◌, refl, sym, ap, ◌∙◌}
 use mathlib.Core.Bool.{true}
-use mathlib.Core.List.{List, [], ◌∷◌}
+use mathlib.Core.List.{List, [], ◌∷◌, ◌++◌}
 use Prim.Native.Nat.{ℕ, suc}
 use lib.ListN.{length, get_elem?}
 use lib.Dec.{eqb}
@@ -194,15 +194,17 @@ pub check_style_determined : (w : List ℕ) (origin : ℕ) (properties kinds num
 unfolding style_push_verdict
 check_style_determined w origin properties kinds numbers n = checks_determined _ refl
 
+rule_plain : (w : List ℕ) (g : Group) (k : ℕ) → plain (rule_checks (ids_in w) (all_entries_in w) g k) ≡ true
+unfolding rule_checks
+rule_plain w g k = refl
+
 pub check_group_determined : (w : List ℕ) (origin : ℕ) (g : Group) (n : ℕ) → Determined (λ (r : Result ⊤ Refusal). verdict_of r ≡ group_verdict w origin g n)
 unfolding group_verdict
 check_group_determined w origin g n =
-    checks_determined _ (plain_append (front_checks w origin) _ refl (plain_append (check 2 (rules_over w g.rules n) ∷ []) _ refl
-    (plain_append (checks_below n (rule_checks (ids_in w) (all_entries_in w) g)) (index_checks w) (plain_below (rule_checks (ids_in w) (all_entries_in w) g) (rule_plain w g) n) refl)))
-  where
-    rule_plain : (w : List ℕ) (g : Group) (k : ℕ) → plain (rule_checks (ids_in w) (all_entries_in w) g k) ≡ true
-    unfolding rule_checks
-    rule_plain w g k = refl
+    let rules = checks_below n (rule_checks (ids_in w) (all_entries_in w) g) in
+    let many = check 2 (rules_over w g.rules n) ∷ [] in
+    let last = plain_append rules (index_checks w) (plain_below (rule_checks (ids_in w) (all_entries_in w) g) (rule_plain w g) n) refl in
+    checks_determined _ (plain_append (front_checks w origin) (many ++ (rules ++ index_checks w)) refl (plain_append many (rules ++ index_checks w) refl last))
 
 pub check_cascade_determined : (w v : List ℕ) → Determined (λ (r : Result ⊤ Refusal). verdict_of r ≡ cascade_verdict w v)
 unfolding cascade_verdict

@@ -11,7 +11,7 @@ use lib.ListN.{length, get_or, drop, length-drop}
 use lib.Seq.{get_or-drop, drop-nil}
 use lib.Dec.{ltb}
 use borrow.Author.Tests.{le-ltb, ltb-false, not-false}
-use Rattle.std.specs.Prelude.{Result, Ok}
+use Rattle.std.specs.Prelude.{Result, Ok, Err}
 use Rattle.lent.specs.declared.Refusal.{Refusal}
 use Rattle.theory.specs.Paths.{Selector, FitsTail}
 use Rattle.theory.proofs.Lists.{or_first, or_second}
@@ -24,7 +24,7 @@ use Rattle.selector.specs.Tags.{Tags, step_matches}
 use Rattle.selector.specs.Rows.{subject_at, selector_of, path_of}
 use Rattle.selector.specs.Checks.{row_fits, selector_over, path_over, combinators_off, codes_over, tags_ascend, subjects_off, path_verdict}
 use Rattle.selector.specs.Matching.{fits_from, fits, matching_told, matching_of}
-use Rattle.selector.specs.Diagnosing.{Diagnosis, Fits, diagnosis_told, diagnosis_of}
+use Rattle.selector.specs.Diagnosing.{Diagnosis, Fits, diagnose, diagnosis_told, diagnosis_of}
 use Rattle.diagnosing.proofs.Agree.{diagnosis_fits}
 use Rattle.matching.proofs.Answers.{told_is}
 use Rattle.selector.proofs.Distinct.{matching_distinct, diagnosis_distinct}
@@ -78,10 +78,14 @@ module _ (path : List ℕ) (m j : ℕ) (h : j ≤ m) where
 
 -- ---- what a call that is not refused answers
 
+abbrev found : Result Diagnosis Refusal → Diagnosis
+found (Ok d) = d
+found (Err r) = Fits
+
 module _ (steps : List ℕ) (n : ℕ) (combinators : List ℕ) (c : ℕ) (path : List ℕ) (m : ℕ) (accepts : path_verdict steps n combinators c path m ≡ 0) where
   pub yes_fits : (r : Result Bool Refusal) → matching_told r ≡ matching_of steps n combinators c path m → (r ≡ Ok true) ↔ (fits steps n combinators path m ≡ true)
   unfolding matching_of
-  yes_fits r e = at (fits steps n combinators path m) (matching_distinct r _ (e ∙ told_is steps n combinators c path m _ refl accepts _))
+  yes_fits r e = at (fits steps n combinators path m) (matching_distinct r _ (e ∙ told_is steps n combinators c path m (sym accepts) _))
     where
       at : (b : Bool) → r ≡ Ok b → (r ≡ Ok true) ↔ (b ≡ true)
       at true q = (λ _. refl, λ _. q)
@@ -93,9 +97,9 @@ module _ (steps : List ℕ) (n : ℕ) (combinators : List ℕ) (c : ℕ) (path :
   pub diagnosed_fits : (d : Result Diagnosis Refusal) → diagnosis_told d ≡ diagnosis_of steps n combinators c path m → (d ≡ Ok Fits) ↔ (fits steps n combinators path m ≡ true)
   unfolding diagnosis_of
   diagnosed_fits d f =
-      let q = diagnosis_distinct d _ (f ∙ told_is steps n combinators c path m _ refl accepts _) in
+      let q = diagnosis_distinct d (Ok (diagnose steps n combinators path m)) (f ∙ told_is steps n combinators c path m (sym accepts) _) in
       let law = diagnosis_fits steps n combinators path m in
-      (λ e. law.0 (sym q ∙ e), λ t. q ∙ law.1 t)
+      (λ e. law.0 (ap found (sym q ∙ e)), λ t. q ∙ ap (λ (x : Diagnosis). Ok x) (law.1 t))
 
 -- ---- some tail
 

@@ -1,8 +1,7 @@
 -- 01's "Marked examples": P1 to P8 as questions to public calls, each with the answer that 01 marks. Assumes nothing.
 use mathlib.Core.List.{List, [], ◌∷◌, ◌++◌, flat_map, map}
-use Rattle.std.specs.Prelude.{true, false, Ok, Err, Option, Some, None, ℕ, ◌-◌, length, replicate}
+use Rattle.std.specs.Prelude.{true, false, Ok, Err, Some, None, ℕ, ◌-◌, length, replicate}
 use Rattle.lent.specs.Refusals.{answered}
-use Rattle.selector.specs.declared.SelectorMismatch.{SelectorMismatch}
 use Rattle.selector.specs.declared.SelectorMismatch.TheVariants.{EmptySelectorWithNonEmptyPath, MissingSubject, TrailingSubjects, MissingDescendant}
 use Rattle.selector.specs.Matching.{matching_told}
 use Rattle.selector.specs.Diagnosing.{Fits, diagnosis_told, diagnosis_of}

@@ -1,6 +1,6 @@
 -- 01's `walk` example: its sheet, its subjects, the room it takes, and what its calls answer. Assumes nothing.
 use Rattle.std.proofs.Math.Option.{none, some}
-use Rattle.std.specs.Prelude.{Result, Ok, Option, Some, None, List, [], ◌∷◌, map, ℕ, ◌≤◌, length}
+use Rattle.std.specs.Prelude.{Result, Ok, Some, None, List, [], ◌∷◌, map, ℕ, ◌≤◌, length}
 use Rattle.lent.specs.declared.Refusal.{Refusal}
 use Rattle.theory.specs.Paths.{Comb, child, descendant, Part}
 use Rattle.theory.specs.States.{Sheet, State, run}
