@@ -10,6 +10,7 @@ use house::held::is_over;
 use house::{Making, Walked};
 use screen::held::{fill, shift};
 use screen::send;
+use sheet::Sheet;
 use walking::held::feed_walk;
 use wording::held::refused;
 
@@ -177,7 +178,7 @@ pub fn answer(input: &mut [u8], have: usize, m: Making, sheet: &[u32], out: &mut
     let mut transitions = [0u32; 83968];
     let mut items = [0u32; 38];
     building::held::build(
-        sheet,
+        Sheet { words: sheet },
         m.stamp,
         m.ranking,
         &mut head,
