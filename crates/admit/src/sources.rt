@@ -6,6 +6,7 @@ ghost use Rattle.given.specs.Pushing.{index_checks, form_checks, style_size_chec
 
 use checks::held::{check_combinators, selector_over};
 use given::held::{all_entries, held_ids};
+use crate::held;
 use given::{EntryLists, GroupLists};
 use lent::Refusal;
 use lent::held::rest;
@@ -14,7 +15,7 @@ use sheet::{Sheet, layout};
 use style::held::{entries_over, kinds_over, properties_off};
 
 // 7.
-fn check_index(sheet: &[u32]) -> Result<(), Refusal>
+pub(crate) fn check_index(sheet: &[u32]) -> Result<(), Refusal>
     ensures { verdict_of result ≡ first_of (index_checks sheet.now) }
 {
     if 65535 < word(sheet, layout::NEXT_SOURCE) {
@@ -24,7 +25,7 @@ fn check_index(sheet: &[u32]) -> Result<(), Refusal>
 }
 
 // 6, 1.
-fn check_form(entries: EntryLists, n: usize) -> Result<(), Refusal>
+pub(crate) fn check_form(entries: EntryLists, n: usize) -> Result<(), Refusal>
     requires { (n ≤ 32) × (n ≤ length entries.properties.now) × (n ≤ length entries.kinds.now) }
     ensures { verdict_of result ≡ first_of (form_checks entries.entry.properties.now entries.entry.kinds.now n) }
 {
@@ -38,7 +39,7 @@ fn check_form(entries: EntryLists, n: usize) -> Result<(), Refusal>
 }
 
 // 2.
-fn check_style_sizes(sheet: &[u32], entries: EntryLists, n: usize) -> Result<(), Refusal>
+pub(crate) fn check_style_sizes(sheet: &[u32], entries: EntryLists, n: usize) -> Result<(), Refusal>
     ensures { verdict_of result ≡ first_of (style_size_checks sheet.now entries.entry.properties.now entries.entry.kinds.now entries.entry.numbers.now n) }
 {
     if 64 <= word(sheet, layout::STYLES) {
@@ -53,23 +54,6 @@ fn check_style_sizes(sheet: &[u32], entries: EntryLists, n: usize) -> Result<(),
     Ok(())
 }
 
-// 6 (origin), 2, 6, 1, 7, of a sheet in shape: apart from `check_style`, so that a record with many groups tests its sheet once.
-pub fn check_style_held(
-    sheet: Sheet<'_>,
-    origin: u32,
-    entries: EntryLists,
-    n: usize,
-) -> Result<(), Refusal>
-    ensures { verdict_of result ≡ style_push_verdict sheet.entry.words.now origin entries.entry.properties.now entries.entry.kinds.now entries.entry.numbers.now n }
-{
-    if 7 < origin {
-        return Err(Refusal::CodeOutOfRange);
-    }
-    check_style_sizes(sheet.words, entries, n)?;
-    check_form(entries, n)?;
-    check_index(sheet.words)
-}
-
 // "Pushing a style 11, 6 (origin), 2, 6, 1, 7."
 pub fn check_style(sheet: &[u32], origin: u32, entries: EntryLists, n: usize) -> Result<(), Refusal>
     ensures { verdict_of result ≡ style_push_verdict sheet.now origin entries.entry.properties.now entries.entry.kinds.now entries.entry.numbers.now n }
@@ -77,7 +61,7 @@ pub fn check_style(sheet: &[u32], origin: u32, entries: EntryLists, n: usize) ->
     let Some(sheet) = Sheet::of(sheet) else {
         return Err(Refusal::BrokenShape);
     };
-    check_style_held(sheet, origin, entries, n)
+    held::check_style(sheet, origin, entries, n)
 }
 
 // 2, of one rule whose n steps, m combinators and l entries begin the lists, after `ids` ids and `entries` entries.
@@ -155,7 +139,7 @@ fn check_rule_from(
 }
 
 // "each rule in turn": n rules, after `ids` ids and `entries` entries.
-fn check_rules(lists: GroupLists, n: usize, ids: usize, entries: usize) -> Result<(), Refusal>
+pub(crate) fn check_rules(lists: GroupLists, n: usize, ids: usize, entries: usize) -> Result<(), Refusal>
     requires { (n ≤ 256) × (ids ≤ 8192) × (entries ≤ 4096) }
     ensures { verdict_of result ≡ first_of (checks_below n (rule_checks ids entries (group_of lists.entry))) }
 {
@@ -187,33 +171,13 @@ fn check_rules(lists: GroupLists, n: usize, ids: usize, entries: usize) -> Resul
     Ok(())
 }
 
-fn rules_over(sheet: Sheet<'_>, rules: &[u32], n: usize) -> bool
+pub(crate) fn rules_over(sheet: Sheet<'_>, rules: &[u32], n: usize) -> bool
     ensures { result ≡ rules_over sheet.entry.words.now rules.now n }
 {
     if 256 - wide(word(sheet.words, layout::RULES)) < n {
         return true;
     }
     rules.len() / 3 < n
-}
-
-// 6 for the origin, 2 for the number of rules, then each rule in turn 2, 3, 6, 1, then 7, of a sheet in shape.
-pub fn check_group_held(
-    sheet: Sheet<'_>,
-    origin: u32,
-    lists: GroupLists,
-    n: usize,
-) -> Result<(), Refusal>
-    ensures { verdict_of result ≡ group_verdict sheet.entry.words.now origin (group_of lists.entry) n }
-{
-    if 7 < origin {
-        return Err(Refusal::CodeOutOfRange);
-    }
-    if rules_over(sheet, lists.rules, n) {
-        return Err(Refusal::OverSize);
-    }
-    let ids = wide(word(sheet.words, layout::IDS));
-    check_rules(lists, n, ids, all_entries(sheet.words))?;
-    check_index(sheet.words)
 }
 
 // "Pushing a group 11, 6 for the origin, 2 for the number of rules, then each rule in turn 2 (sheet sums so far included), 3, 6, 1, then 7".
@@ -223,5 +187,5 @@ pub fn check_group(sheet: &[u32], origin: u32, lists: GroupLists, n: usize) -> R
     let Some(sheet) = Sheet::of(sheet) else {
         return Err(Refusal::BrokenShape);
     };
-    check_group_held(sheet, origin, lists, n)
+    held::check_group(sheet, origin, lists, n)
 }

@@ -27,7 +27,7 @@ pub fn push_style(
         kinds,
         numbers,
     };
-    admit::sources::check_style_held(Sheet { words: sheet }, origin, entries, count)?;
+    admit::held::check_style(Sheet { words: sheet }, origin, entries, count)?;
     group::held::put_style(sheet, origin, entries, count);
     Ok(())
 }
@@ -56,7 +56,7 @@ pub fn push_rules(
             numbers,
         },
     };
-    admit::sources::check_group_held(Sheet { words: sheet }, origin, lists, rule_count)?;
+    admit::held::check_group(Sheet { words: sheet }, origin, lists, rule_count)?;
     group::held::put_group(sheet, origin, lists, rule_count);
     Ok(())
 }

@@ -14,9 +14,9 @@ pub struct Pairing<'a> {
     pub combinators: &'a [u32],
     pub path: &'a [u32],
     pub m: usize,
-    ghost steps_few: { n ≤ 8 },
-    ghost places_few: { m ≤ 32 },
-    ghost sorted: { subjects_off path.now m ≡ false },
+    pub ghost steps_few: { n ≤ 8 },
+    pub ghost places_few: { m ≤ 32 },
+    pub ghost sorted: { subjects_off path.now m ≡ false },
 }
 
 // Whether step k matches at place i.

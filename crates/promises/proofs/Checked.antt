@@ -11,13 +11,9 @@ use Rattle.std.specs.Prelude.{Result, Ok, Err, ⊤}
 use Rattle.theory.proofs.Lists.{and_left, and_right}
 use Rattle.lent.specs.declared.Refusal.{Refusal}
 use Rattle.lent.specs.declared.Refusal.TheVariants.{NotAscending, OverSize, CombinatorCount, NotAState, NoRoom, CodeOutOfRange, NoSourceIndex, BufferTooShort, NoSuchRule, BadRecord, BrokenShape}
+use Rattle.promises.specs.Determined.{plain}
 use Rattle.lent.specs.Refusals.{Check, first_of, checks_below, answered, done_told, verdict_of}
 use Rattle.lent.proofs.Refusals.{first_here, first_next, done_distinct}
-
--- none of these checks has the number 10
-abbrev pub plain : List Check → Bool
-plain [] = true
-plain (c ∷ l) = not (eqb c.number 10) && plain l
 
 pub plain_append : (a b : List Check) → plain a ≡ true → plain b ≡ true → plain (a ++ b) ≡ true
 plain_append [] b p q = q

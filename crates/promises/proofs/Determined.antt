@@ -63,8 +63,8 @@ use Rattle.looking.proofs.Distinct as Looking
 use Rattle.cascade.specs.Calls.{changed_in, pair_verdict}
 use Rattle.cascade.specs.Answers.{channels_told}
 use Rattle.cascade.proofs.Distinct.{channels_determined}
-use Rattle.promises.specs.Determined.{Determined, DeterminedPart}
-use Rattle.promises.proofs.Checked.{plain, plain_append, plain_below, checks_alike}
+use Rattle.promises.specs.Determined.{Determined, DeterminedPart, plain}
+use Rattle.promises.proofs.Checked.{plain_append, plain_below, checks_alike}
 
 -- ---- any call
 

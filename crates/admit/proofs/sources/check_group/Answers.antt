@@ -6,4 +6,4 @@ pub returns-in_default : goal.returns-in_default
 returns-in_default c = group_shapeless _ _ c.in_default.ensures.there refl _ _ _
 
 pub returns : goal.returns
-returns c = rw (← c.in-Some.ensures.same) c.check_group_held.ensures
+returns c = rw (← c.in-Some.ensures.same) c.check_group.ensures

@@ -6,4 +6,4 @@ pub returns-in_default : goal.returns-in_default
 returns-in_default c = style_shapeless _ _ c.in_default.ensures.there refl _ _ _ _ _
 
 pub returns : goal.returns
-returns c = rw (← c.in-Some.ensures.same) c.check_style_held.ensures
+returns c = rw (← c.in-Some.ensures.same) c.check_style.ensures

@@ -1,6 +1,6 @@
 use borrow.Author.Rules.{rules}
 use Rattle.admit.proofs.Ladders.{group_origin, group_over, group_rule, group_index, group_few}
-use Rattle.admit.proofs.sources.check_group_held.Goals as goal
+use Rattle.admit.proofs.held.check_group.Goals as goal
 
 pub returns-then-origin-gt7 : goal.returns-then-origin-gt7
 returns-then-origin-gt7 c = search (group_origin, rules)

@@ -1,6 +1,6 @@
 use borrow.Author.Rules.{rules}
 use Rattle.admit.proofs.Ladders.{style_origin, style_over, style_form, style_index, style_formable}
-use Rattle.admit.proofs.sources.check_style_held.Goals as goal
+use Rattle.admit.proofs.held.check_style.Goals as goal
 
 pub returns-then-origin-gt7 : goal.returns-then-origin-gt7
 returns-then-origin-gt7 c = search (style_origin, rules)
