@@ -1,4 +1,5 @@
 // For callers that hold the sheet to its shape, and the lent lists to what the records before have left there.
+// The six lists come apart: each kind of record writes to others of them.
 ghost use Rattle.std.specs.Prelude.{◌≡◌, true, cond, ◌&&◌, ◌||◌, ◌+◌, ◌-◌, ◌*◌, ◌≤◌, ◌<◌, get_or, set, eqb, ltb};
 ghost use Rattle.lent.specs.Refusals.{first_of};
 ghost use Rattle.sheet.specs.Shape.{sheet_shape};

@@ -4,9 +4,9 @@ ghost use Rattle.lent.specs.Refusals.{first_of, checks_below, verdict_of};
 ghost use Rattle.given.specs.Given.{group_of};
 ghost use Rattle.given.specs.Pushing.{index_checks, form_checks, style_size_checks, style_push_verdict, rules_over, rule_size_checks, one_rule_checks, rule_checks, group_verdict};
 
+use crate::held;
 use checks::held::{check_combinators, selector_over};
 use given::held::{all_entries, held_ids};
-use crate::held;
 use given::{EntryLists, GroupLists};
 use lent::Refusal;
 use lent::held::rest;
@@ -54,7 +54,7 @@ pub(crate) fn check_style_sizes(sheet: &[u32], entries: EntryLists, n: usize) ->
     Ok(())
 }
 
-// "Pushing a style 11, 6 (origin), 2, 6, 1, 7."
+// "Pushing a style 11, 6 (origin), 2, 6, 1, 7." Its check and its lists are not the group's: one call each.
 pub fn check_style(sheet: &[u32], origin: u32, entries: EntryLists, n: usize) -> Result<(), Refusal>
     ensures { verdict_of result ≡ style_push_verdict sheet.now origin entries.entry.properties.now entries.entry.kinds.now entries.entry.numbers.now n }
 {
@@ -139,7 +139,12 @@ fn check_rule_from(
 }
 
 // "each rule in turn": n rules, after `ids` ids and `entries` entries.
-pub(crate) fn check_rules(lists: GroupLists, n: usize, ids: usize, entries: usize) -> Result<(), Refusal>
+pub(crate) fn check_rules(
+    lists: GroupLists,
+    n: usize,
+    ids: usize,
+    entries: usize,
+) -> Result<(), Refusal>
     requires { (n ≤ 256) × (ids ≤ 8192) × (entries ≤ 4096) }
     ensures { verdict_of result ≡ first_of (checks_below n (rule_checks ids entries (group_of lists.entry))) }
 {

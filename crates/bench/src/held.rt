@@ -1,4 +1,4 @@
-// The cores. The Rust caller keeps what they require.
+// The cores. The Rust caller keeps what they require. Numbers and slices only, as C takes them.
 ghost use Rattle.std.specs.Prelude.{◌≡◌, true, ◌<◌};
 ghost use Rattle.idset.specs.Buffers.{Holds};
 ghost use Rattle.selector.specs.Rows.{row_at};

@@ -1,4 +1,4 @@
-// Winners and changes: the public calls.
+// Winners and changes: the public calls. Numbers and slices only, as C takes them.
 ghost use Rattle.std.specs.Prelude.{◌≡◌, ◌+◌};
 ghost use Rattle.table.specs.Tables.{table};
 ghost use Rattle.bench.specs.Winners.{winning_number, changing_number, winner_number, Changes};

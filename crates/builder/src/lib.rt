@@ -1,4 +1,4 @@
-// Pushing styles, rules and cascades into a lent sheet: `StyleCascadeBuilder` of matcher.rs.
+// Pushing styles, rules and cascades into a lent sheet: `StyleCascadeBuilder` of matcher.rs. Lists come one by one with a count: 2 refuses a count past any of them.
 #![tactic(auto)]
 
 ghost use Rattle.std.specs.Prelude.{[], ◌∷◌};

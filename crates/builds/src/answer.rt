@@ -1,4 +1,4 @@
-// The lines of one item.
+// The lines of one item. A number of the input says what is to be done.
 use crate::{look, push, tell};
 use items::{MOST, room, say};
 use lent::held::part;

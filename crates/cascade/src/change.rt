@@ -1,4 +1,5 @@
 // What changes from one state to another: the properties, and the channels.
+// The five lists come apart, as `enter_subject` writes to them.
 ghost use Rattle.std.specs.Prelude.{◌≡◌, [], ◌∷◌};
 ghost use Rattle.lent.specs.Refusals.{answered, verdict_of};
 ghost use Rattle.table.specs.Tables.{table};

@@ -1,4 +1,5 @@
 // Change sets: property ids in lent half words, ascending and each once. `StyleChangeSet` of matcher.rs.
+// A count stands beside its list: 2 refuses one past it.
 #![tactic(auto)]
 
 ghost use Rattle.std.specs.Prelude.{◌≡◌, [], ◌∷◌, length, eqb};

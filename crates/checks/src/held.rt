@@ -1,4 +1,5 @@
 // What selectors and paths are refused for, in 01's order.
+// A count stands beside its list: 2 refuses one past it.
 ghost use Rattle.std.specs.Prelude.{◌≡◌, [], ◌∷◌, ℕ, ◌≤◌, ◌*◌, length};
 ghost use Rattle.lent.specs.All.{all_below};
 ghost use Rattle.lent.specs.Refusals.{check, first_of, verdict_of};

@@ -1,4 +1,5 @@
 // Why a selector does not fit a path: `diagnose_path` of selector.rs.
+// A count stands beside its list: 2 refuses one past it.
 #![tactic(auto)]
 
 ghost use Rattle.std.specs.Prelude.{◌≡◌, ◌<◌, ◌+◌, ◌-◌};

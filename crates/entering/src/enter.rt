@@ -1,4 +1,5 @@
 // Entering a subject under a state.
+// The five lists come apart, as `enter_subject` writes to them.
 ghost use Rattle.std.specs.Prelude.{◌≡◌};
 ghost use Rattle.lent.specs.Refusals.{verdict_of};
 ghost use Rattle.typed.specs.Typed.{inputs_row};

@@ -1,4 +1,5 @@
 // For callers that hold the sheet, the table and the subject to their shapes already.
+// The table's lists come apart: calls write to some and read others, and a struct that lends each again is no plainer.
 ghost use Rattle.std.specs.Prelude.{◌≡◌, true, ◌&&◌, List, ℕ, ◌<◌, length, leb};
 ghost use Rattle.selector.specs.Rows.{row_at};
 ghost use Rattle.selector.specs.Checks.{row_fits, tags_ascend};

@@ -4,7 +4,7 @@
 ghost use Rattle.std.specs.Prelude.{◌≡◌};
 ghost use Rattle.gather.specs.Memory.{newly};
 
-// What is open: nothing, or a direct style or a group of rules with its origin.
+// What is open: nothing, or a direct style or a group of rules with its origin. Nothing is one of three: an Option around two is no plainer.
 #[derive(Clone, Copy, Debug, PartialEq, Eq)]
 pub enum OpenKind {
     Nothing,

@@ -42,7 +42,7 @@ pub enum Found {
 }
 
 // How far the records after kind 8 have come: where the next begins in the piece, or the one that ends the program, its offset, how many bytes of lines
-// there are, and whether the program ends.
+// there are, and whether the program ends. The other fields hold whether it ends or not.
 #[derive(Clone, Copy, Debug, PartialEq, Eq)]
 pub struct Walked {
     pub at: usize,

@@ -30,7 +30,7 @@ pub fn at_most(numbers: &[u32], limit: u32) -> bool
     numbers.iter().all(|n| *n <= limit)
 }
 
-// The order of two lists, as in a dictionary: -1, 0 or 1.
+// The order of two lists, as in a dictionary: -1, 0 or 1. A number, as 01 asks for it.
 pub fn compare(a: &[u32], b: &[u32]) -> i32
     ensures { result ≡ compare a.now b.now }
 {

@@ -1,4 +1,5 @@
 // Where an item ends, and the items of the input one after another.
+// A buffer is refilled past the bytes at hand, so their number stands beside it.
 ghost use Rattle.std.specs.Prelude.{◌≡◌, ◌≤◌, length, take, ltb};
 ghost use Rattle.screen.specs.Ends.{Ends};
 ghost use Rattle.items.specs.Items.{end_of, too_long, Taken, Onward};

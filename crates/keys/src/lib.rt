@@ -20,7 +20,7 @@ pub struct CascadeEntryKey {
 }
 
 impl CascadeEntryKey {
-    // -1, 0 or 1; exchanging the sides negates it.
+    // -1, 0 or 1; exchanging the sides negates it. A number, as 01 asks for it.
     pub fn compare(self, other: CascadeEntryKey) -> i32
         ensures { result ≡ compare_keys (key_from self) (key_from other) }
     {

@@ -39,6 +39,7 @@ pub enum Refusal {
 }
 
 impl Refusal {
+    // The number that 01 gives it.
     pub fn number(self) -> u32
         ensures { result ≡ number_of self }
     {

@@ -2,7 +2,7 @@
 ghost use Rattle.std.specs.Prelude.{◌≡◌, get_or, set};
 ghost use Rattle.std.proofs.lemmas.List.Edits.{sets};
 
-// The same number, as an index.
+// The same number, as an index. std has no From for it.
 pub fn wide(x: u32) -> usize
     ensures { result ≡ x }
 {

@@ -1,4 +1,5 @@
 // The transition that entering writes. Nothing is required of the table: a caller that did not test its shape gets what its words say.
+// The table's lists come apart: calls write to some and read others, and a struct that lends each again is no plainer.
 ghost use Rattle.std.specs.Prelude.{◌≡◌, true, false, List, ℕ, ◌-◌, ◌<◌};
 ghost use Rattle.table.specs.Tables.{table, transitions_in, first_link};
 ghost use Rattle.table.specs.Entering.{leads, transition_fits, last_from, with_row, hooked, kept};

@@ -1,4 +1,5 @@
 // For callers that lend zeroed memory.
+// The six lists come apart: each kind of record writes to others of them.
 ghost use Rattle.std.specs.Prelude.{◌≡◌, false, ◌≤◌, length, replicate};
 ghost use Rattle.sheet.specs.Layout.{SHEET-WORDS};
 ghost use Rattle.given.specs.Given.{Group, given};
@@ -12,7 +13,7 @@ use house::{Making, Stage};
 use making::held::feed_sheet;
 use screen::held::{fill, shift};
 
-// How many bytes are at hand, how far the sheet has come, and whether its part of the input is over.
+// How many bytes are at hand, how far the sheet has come, and whether its part of the input is over. The other fields hold either way.
 #[derive(Clone, Copy, Debug, PartialEq, Eq)]
 pub struct Reading {
     pub have: usize,

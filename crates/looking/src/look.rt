@@ -1,4 +1,5 @@
 // The winner of a property, and what it says.
+// The five lists come apart, as `enter_subject` writes to them.
 ghost use Rattle.std.specs.Prelude.{◌≡◌};
 ghost use Rattle.lent.specs.Refusals.{answered};
 ghost use Rattle.style.specs.Looking.{kind_told, kind_of, plain_told, plain_of, resource_told, resource_of};

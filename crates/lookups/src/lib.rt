@@ -1,4 +1,4 @@
-// The look-ups of a style's entries in lent lists: those of style.rs.
+// The look-ups of a style's entries in lent lists: those of style.rs. Lists come one by one with a count: 2 refuses a count past any of them.
 #![tactic(auto)]
 
 ghost use Rattle.std.specs.Prelude.{◌≡◌, [], ◌∷◌};

@@ -1,4 +1,5 @@
 // For callers that lend zeroed memory first, and then what the calls before have left.
+// The six lists come apart: each kind of record writes to others of them.
 ghost use Rattle.std.specs.Prelude.{◌≡◌, cond, true, ◌+◌, ◌≤◌, ◌<◌, length, drop, eqb};
 ghost use Rattle.given.specs.Given.{Group, given};
 ghost use Rattle.records.specs.Records.{size_of, is_whole};
@@ -158,6 +159,7 @@ pub fn feed_sheet(
 {
     let mut m = open(input, start, sheet);
     let mut found = ahead(input, m);
+    // What a record leads to says whether another stands ahead: nothing is counted.
     while let Found::Whole = found {
         let item = item_at(input, m.at);
         let filled = m.filled;

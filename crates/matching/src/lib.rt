@@ -1,4 +1,5 @@
 // Whether a selector fits a path: `matches_path` of selector.rs.
+// A count stands beside its list: 2 refuses one past it.
 #![tactic(auto)]
 
 ghost use Rattle.std.specs.Prelude.{◌≡◌, ◌<◌, ◌+◌, ◌-◌};

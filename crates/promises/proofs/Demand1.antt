@@ -1,12 +1,13 @@
 -- Demand 1: "Each public call takes all input, ends, and checks for itself: bad input gets 01's numbered refusal exactly when 01 says, and a refused call changes
 -- no lent memory." Assumes nothing.
--- That a call takes all input and ends is what the checker shows of each: no public function outside the modules `held` has a `requires`, and a contract is
--- proved of a function only if it ends. Here, of each call that can refuse, by its contract: its checks, in the order that 01 gives them; the first whose test holds gives
+-- That a call takes all input and ends is what the checker shows of each: no public function outside the modules `held` has a `requires` or takes a
+-- type with an invariant, and a contract is proved of a function only if it ends. Here, of each call that can refuse, by its contract: its checks, in the order that 01 gives them; the first whose test holds gives
 -- the number, which is told alone; where none holds, and only there, the call is accepted; and what was lent to write is left as it was by a refusal.
 -- `Refusing checks told` says so of what the answer tells, `Guarding checks told before after` of that and of memory. There is always one number or none
 -- (Ladders.antt, `decided`, `one_number`). Each test is defined in the specs/ of its crate, under its line of 01's table, and each size in theory's specs/Sizes; w is a sheet's words, t a table's.
 -- Demand1Rest.antt has the calls for which 01's "Order" has no line. Refusal 10 is of house records, which no call here takes: `walk_of` (house, specs/House) says when,
--- and `pieces_print` (walked) that it is printed. The calls that only check (`admit`, `joining`, `matcher::states`) have the verdict itself for their contract.
+-- and `pieces_print` (walked) that it is printed. The calls that only check (`admit`, `joining`, `matcher::states`) have the verdict of their answer for their contract
+-- (`verdict_of`; that this fixes the answer: Determined.antt).
 use mathlib.Core.Path.{◌≡◌, refl, ap, ◌∙◌}
 use mathlib.Core.Logic.{◌↔◌, ◌⊎◌}
 use mathlib.Core.Bool.{true, not}

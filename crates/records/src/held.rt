@@ -96,7 +96,7 @@ pub fn record_in(bytes: &[u8]) -> Record
     }
 }
 
-// A property id as the calls take it.
+// A property id as the calls take it. By value: `try_from` would add a refusal that can't come.
 pub fn half(x: u32) -> u16
     requires { x < 65536 }
     ensures { result ≡ x }

@@ -1,4 +1,4 @@
-// Answers a batch of cases from standard input, a line for each, in the words of the judge (oracle/), so that the two can be compared.
+// Answers a batch of cases from standard input, a line for each, in the words of the judge (oracle/), so that the two can be compared. A number of the input says what is to be done.
 // A case is two little-endian words, its kind and how many words follow, and those words.
 #![tactic(auto)]
 
@@ -68,6 +68,7 @@ fn cut(out: &mut [u8], used: usize) {
 fn answer_all(input: &[u8], out: &mut [u8]) {
     let mut used = 0;
     let mut rest = input;
+    // Cases have different lengths: what is left of the input is cut as each says.
     while !rest.is_empty() {
         if rest.len() < 8 {
             cut(out, used);

@@ -1,4 +1,5 @@
 // For callers that hold the sheet and the table to what the calls before have left, and lend room for a line.
+// The table's lists come apart: calls write to some and read others, and a struct that lends each again is no plainer.
 ghost use Rattle.std.specs.Prelude.{◌≡◌, true, ◌≤◌, ◌<◌, length, take, eqb};
 ghost use Rattle.lent.specs.Refusals.{verdict_of};
 ghost use Rattle.typed.specs.Typed.{inputs_row};

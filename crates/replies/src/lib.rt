@@ -3,7 +3,7 @@
 
 pub mod held;
 
-// Where the next line goes, and whether the program ends.
+// Where the next line goes, and whether the program ends. The other fields hold either way.
 #[derive(Clone, Copy, Debug, PartialEq, Eq)]
 pub struct Replied {
     pub used: usize,

@@ -1,4 +1,5 @@
 // The state that entering writes. Nothing is required of the table, as in `finding`.
+// The table's lists come apart: calls write to some and read others, and a struct that lends each again is no plainer.
 ghost use Rattle.std.specs.Prelude.{◌≡◌, true, List, ℕ, length};
 ghost use Rattle.table.specs.Tables.{table};
 ghost use Rattle.table.specs.Entering.{room_for, grown};

@@ -1,4 +1,5 @@
 // The test of a sheet's shape, clause by clause.
+// Counts are the used counts that stand in the words themselves (01: "flat lent tables with used counts").
 ghost use Rattle.std.specs.Prelude.{◌≡◌, true, ◌&&◌, ◌+◌, ◌-◌, ◌≤◌, ◌<◌, get_or, leb};
 ghost use Rattle.theory.specs.Lists.{ascends, at_most, sum_below};
 ghost use Rattle.lent.specs.All.{all_below};

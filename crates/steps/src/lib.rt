@@ -16,7 +16,7 @@ use typed::{
 };
 use weight::held::step_specificity;
 
-// A step of a selector. What it requires are the sets of the ids given, the first of each array; a count over 8 is refused where the step is used.
+// A step of a selector. What it requires are the sets of the ids given, the first of each array; a count over 8 is refused where the step is used. Fixed memory: arrays with a count.
 #[derive(Clone, Copy)]
 pub struct SelectorStep {
     pub type_tag: Option<TypeTag>,

@@ -1,4 +1,5 @@
 // A style's checks one by one, and look-ups for callers that hold it to its sizes and order already.
+// A count stands beside its list: 2 refuses one past it.
 ghost use Rattle.std.specs.Prelude.{◌≡◌, false, [], ◌∷◌, ◌≤◌, length, take, replicate, Ok, Some};
 ghost use Rattle.std.proofs.lemmas.List.Edits.{sets};
 ghost use Rattle.lent.specs.Refusals.{verdict_of};

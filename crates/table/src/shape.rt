@@ -1,4 +1,5 @@
 // The test of a table's shape, clause by clause.
+// Counts are the used counts that stand in the words themselves (01: "flat lent tables with used counts").
 ghost use Rattle.std.specs.Prelude.{◌≡◌, not, ◌&&◌, ℕ, ◌*◌, ◌<◌, length, get_or, leb, ltb};
 ghost use Rattle.theory.specs.Lists.{ascends};
 ghost use Rattle.lent.specs.All.{all_below};

@@ -1,4 +1,5 @@
 // For callers that hold the sheet to its shape, and lend a buffer for lines.
+// The table's lists come apart: calls write to some and read others, and a struct that lends each again is no plainer.
 ghost use Rattle.std.specs.Prelude.{◌≡◌, true, ◌≤◌, length};
 ghost use Rattle.std.proofs.lemmas.List.Edits.{sets};
 ghost use Rattle.sheet.specs.Shape.{sheet_shape};
@@ -14,7 +15,7 @@ use sheet::Sheet;
 use walking::held::feed_walk;
 use wording::held::refused;
 
-// How many bytes are at hand, the offset of the next record, and whether the walk is over.
+// How many bytes are at hand, the offset of the next record, and whether the walk is over. The other fields hold either way.
 #[derive(Clone, Copy)]
 struct Walking {
     have: usize,

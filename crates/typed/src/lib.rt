@@ -169,7 +169,7 @@ pub fn ids_from<T: Tag, const N: usize>(words: &[u32]) -> [T; N]
     array::from_fn(|k| T::tagged(word(words, k)))
 }
 
-// A subject. Its ids are the first of each array, as many as the count says.
+// A subject. Its ids are the first of each array, as many as the count says. Fixed memory: arrays with a count.
 #[derive(Clone, Copy)]
 pub struct SelectorInputs {
     pub type_tag: Option<TypeTag>,

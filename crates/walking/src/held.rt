@@ -1,4 +1,5 @@
 // For callers that hold the sheet and the table to what the calls before have left.
+// The table's lists come apart: calls write to some and read others, and a struct that lends each again is no plainer.
 ghost use Rattle.std.specs.Prelude.{◌≡◌, ◌+◌, ◌≤◌, ◌<◌, length};
 ghost use Rattle.table.specs.Tables.{table};
 ghost use Rattle.records.specs.Records.{size_of};
@@ -91,6 +92,7 @@ pub fn feed_walk(
         ends: false,
     };
     let mut found = ahead(input, w);
+    // What a record leads to says whether another stands ahead: nothing is counted.
     while let Found::Whole = found {
         let at = w.at;
         let item = record_in(&input[at..]);

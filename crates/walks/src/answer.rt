@@ -1,4 +1,4 @@
-// The lines of one item.
+// The lines of one item. A number of the input says what is to be done.
 use crate::store::{Lent, Stored};
 use crate::{calls, look, sets, store, tell};
 use items::{MOST, room, say};

@@ -1,4 +1,5 @@
 // The weight of a selector, counted from its steps' sets: `specificity`, and Level 3's.
+// A count stands beside its list: 2 refuses one past it.
 ghost use Rattle.std.specs.Prelude.{◌≡◌};
 ghost use Rattle.selector.specs.Weighing.{weighing_told, weighing_of};
 

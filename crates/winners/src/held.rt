@@ -123,7 +123,7 @@ pub fn winner(sheet: Sheet<'_>, ranking: u32, rules: &[u32], property: u32) -> O
     best
 }
 
-// Whether two winners have the same key, or there is none on either side.
+// Whether two winners have the same key, or there is none on either side. By the keys alone, so not the derived equality.
 pub fn same(a: Option<Best>, b: Option<Best>) -> bool
     ensures { result ≡ same_key (key_in a) (key_in b) }
 {
