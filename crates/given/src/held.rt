@@ -1,5 +1,5 @@
 // For the pushes, which hold what is required already: rows, entries and counts written, and what is counted for them.
-ghost use Rattle.std.specs.Prelude.{◌≡◌, true, [], ◌∷◌, ℕ, ◌+◌, ◌*◌, ◌≤◌, ◌<◌, length, get_or};
+ghost use Rattle.std.specs.Prelude.{◌≡◌, true, ℕ, ◌+◌, ◌*◌, ◌≤◌, ◌<◌, length, get_or};
 ghost use Rattle.std.proofs.lemmas.List.Edits.{sets};
 ghost use Rattle.lent.specs.All.{all_below};
 ghost use Rattle.selector.specs.Rows.{tag_of, tag_number};

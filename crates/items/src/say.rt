@@ -1,5 +1,5 @@
 // Lines: a tag, and numbers. What is laid into the buffer is written out once it is more than 16,384 bytes, so that there is room for what comes next.
-ghost use Rattle.std.specs.Prelude.{◌≡◌, [], ◌∷◌};
+ghost use Rattle.std.specs.Prelude.{[], ◌∷◌};
 ghost use Rattle.lent.specs.Refusals.{number_of};
 ghost use Rattle.items.specs.Said.{SaidEnd, SaidNumber, SaidNumbers, SaidLine};
 

@@ -1,5 +1,5 @@
 // For callers that hold the sheet to its shape already.
-ghost use Rattle.std.specs.Prelude.{◌≡◌, ◌≤◌, length};
+ghost use Rattle.std.specs.Prelude.{◌≤◌, length};
 ghost use Rattle.idset.specs.Buffers.{Holds};
 ghost use Rattle.table.specs.Tables.{selectors_of};
 ghost use Rattle.theory.specs.States.{starts};

@@ -1,10 +1,10 @@
 // For callers that hold the sheet to its shape already.
-ghost use Rattle.std.specs.Prelude.{◌≡◌, true, ℕ, ◌+◌, ◌≤◌, ◌<◌, length, drop};
+ghost use Rattle.std.specs.Prelude.{◌≡◌, true, ◌+◌, ◌≤◌, ◌<◌, length, drop};
 ghost use Rattle.std.proofs.Math.Option.{some};
-ghost use Rattle.theory.specs.Lists.{spread, ascends, member};
+ghost use Rattle.theory.specs.Lists.{spread, ascends};
 ghost use Rattle.theory.specs.Cascade.{winner, same_key};
 ghost use Rattle.lent.specs.Pool.{ends_in, list_at};
-ghost use Rattle.sheet.specs.Layout.{rules_in, styles_in};
+ghost use Rattle.sheet.specs.Layout.{styles_in};
 ghost use Rattle.sheet.specs.Sheets.{between, entry_at, key_of};
 ghost use Rattle.style.specs.Entries.{look_up};
 ghost use Rattle.keys.specs.Keys.{key_from};

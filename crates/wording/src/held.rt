@@ -1,6 +1,6 @@
 // Lines laid into a buffer that has room for them.
 // Room is of a buffer that is written to, so no type of a shared slice can say it.
-ghost use Rattle.std.specs.Prelude.{◌≡◌, List, ◌++◌, ℕ, ◌+◌, ◌*◌, ◌≤◌, length};
+ghost use Rattle.std.specs.Prelude.{List, ◌++◌, ℕ, ◌+◌, ◌*◌, ◌≤◌, length};
 ghost use Rattle.std.proofs.Math.Option.{Option as Maybe};
 ghost use Rattle.winners.specs.Winners.{Place};
 ghost use Rattle.winners.specs.Best.{Stands};
