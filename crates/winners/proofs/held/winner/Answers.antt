@@ -5,8 +5,8 @@ use Rattle.winners.proofs.held.winner.Goals as goal
 pub loop-r-init : goal.loop-r-init
 loop-r-init c = search (ruled, rules)
 
-pub or_source-best-requires : goal.or_source-best-requires
-or_source-best-requires c = search (ruled, rules)
+pub or_rule-best-requires : goal.or_rule-best-requires
+or_rule-best-requires c = search (ruled, rules)
 
 pub loop-r-preserved : goal.loop-r-preserved
 loop-r-preserved c = search (ruled, rules)

@@ -1,6 +1,6 @@
 use borrow.Author.Rules.{rules}
 use Rattle.winners.proofs.Turns.{next_unheld, next_less, next_more}
-use Rattle.winners.proofs.held.or_source.Goals as goal
+use Rattle.winners.proofs.held.or_style.Goals as goal
 
 pub returns-then-not-holds : goal.returns-then-not-holds
 returns-then-not-holds c = search (next_unheld, rules)
