@@ -1,5 +1,5 @@
 -- Lines of numbers in a buffer that is written out as it fills. Assumes nothing.
-use Rattle.std.specs.Prelude.{◌≡◌, cond, List, [], ◌∷◌, ℕ, leb, Result, Ok, Err, Option, Some, None}
+use Rattle.std.specs.Prelude.{◌≡◌, cond, List, [], ◌∷◌, ◌++◌, ℕ, leb, take, length, Result, Ok, Err, Option, Some, None}
 use Rattle.lent.specs.declared.Refusal.{Refusal}
 use Rattle.lent.specs.Refusals.{number_of}
 use Rattle.lines.specs.Text.{Laid}
@@ -50,3 +50,7 @@ answer_said tell (Err r) = number_of r ∷ []
 abbrev pub option_said : Option ℕ → List ℕ
 option_said (Some n) = n ∷ []
 option_said None = []
+
+-- the line's numbers by value: how many there are, and four words, 0 past them
+abbrev pub IsSaid : List ℕ → ℕ → List ℕ → Type 0
+IsSaid numbers count list = (count ≡ length numbers) × (list ≡ take 4 (numbers ++ 0 ∷ 0 ∷ 0 ∷ 0 ∷ []))

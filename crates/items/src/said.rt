@@ -1,7 +1,7 @@
 // The numbers of a line by value, so that an answer can be taken apart with no buffer at hand.
 ghost use Rattle.std.specs.Prelude.{◌≡◌, [], ◌∷◌, take};
 ghost use Rattle.lent.specs.Refusals.{number_of, one_if};
-ghost use Rattle.items.specs.Said.{SaidLine, answer_said, option_said};
+ghost use Rattle.items.specs.Said.{SaidLine, answer_said, option_said, IsSaid};
 
 use crate::say;
 use lent::Refusal;
@@ -66,7 +66,7 @@ pub fn line(out: &mut [u8], at: usize, tag: &[u8], said: Said) -> usize
 // ---- an answer: 0 and what it gives, or the refusal's number
 
 impl From<Result<(), Refusal>> for Said {
-    ghost from_gives = { λ answer said. take said.count said.list ≡ answer_said (λ _. []) answer };
+    ghost from_gives = { λ answer said. IsSaid (answer_said (λ _. []) answer) said.count said.list };
 
     fn from(answer: Result<(), Refusal>) -> Said {
         match answer {
@@ -77,7 +77,7 @@ impl From<Result<(), Refusal>> for Said {
 }
 
 impl From<Result<bool, Refusal>> for Said {
-    ghost from_gives = { λ answer said. take said.count said.list ≡ answer_said (λ yes. one_if yes ∷ []) answer };
+    ghost from_gives = { λ answer said. IsSaid (answer_said (λ yes. one_if yes ∷ []) answer) said.count said.list };
 
     fn from(answer: Result<bool, Refusal>) -> Said {
         match answer {
@@ -88,7 +88,7 @@ impl From<Result<bool, Refusal>> for Said {
 }
 
 impl From<Result<u32, Refusal>> for Said {
-    ghost from_gives = { λ answer said. take said.count said.list ≡ answer_said (λ n. n ∷ []) answer };
+    ghost from_gives = { λ answer said. IsSaid (answer_said (λ n. n ∷ []) answer) said.count said.list };
 
     fn from(answer: Result<u32, Refusal>) -> Said {
         match answer {
@@ -99,7 +99,7 @@ impl From<Result<u32, Refusal>> for Said {
 }
 
 impl From<Result<Option<u32>, Refusal>> for Said {
-    ghost from_gives = { λ answer said. take said.count said.list ≡ answer_said option_said answer };
+    ghost from_gives = { λ answer said. IsSaid (answer_said option_said answer) said.count said.list };
 
     fn from(answer: Result<Option<u32>, Refusal>) -> Said {
         match answer {
@@ -111,7 +111,7 @@ impl From<Result<Option<u32>, Refusal>> for Said {
 }
 
 impl From<Result<(u32, u32), Refusal>> for Said {
-    ghost from_gives = { λ answer said. take said.count said.list ≡ answer_said (λ p. p.0 ∷ p.1 ∷ []) answer };
+    ghost from_gives = { λ answer said. IsSaid (answer_said (λ p. p.0 ∷ p.1 ∷ []) answer) said.count said.list };
 
     fn from(answer: Result<(u32, u32), Refusal>) -> Said {
         match answer {

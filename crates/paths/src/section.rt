@@ -68,7 +68,7 @@ pub(crate) struct Case {
 // No bytes: before the first case, and where none is whole.
 pub(crate) fn nothing(at: usize, have: usize) -> Case
     requires { at ≤ have }
-    ensures { result.have ≡ have }
+    ensures { (result.from ≡ at) × (result.steps ≡ at) × (result.codes ≡ at) × (result.path ≡ at) × (result.have ≡ have) }
 {
     Case {
         from: at,

@@ -50,17 +50,18 @@ combinator_back Descendant = (1, [], refl, refl)
 pub combinator_distinct : (a b : Result (Option SelectorCombinator) Refusal) → combinator_told a ≡ combinator_told b → a ≡ b
 combinator_distinct = found_distinct (λ c. combinator_number c ∷ []) read_combinator combinator_back
 
--- `StepRead` determines the whole answer
+-- `step_told` tells whether there is a step, and `step_of` which
+pub step_distinct : (a b : Result (Option SelectorStep) Refusal) → step_told a ≡ step_told b → step_of a ≡ step_of b → a ≡ b
+step_distinct (Ok (Some s)) (Ok (Some t)) e f = rw f
+step_distinct (Ok (Some s)) (Ok None) e f = cc
+step_distinct (Ok (Some s)) (Err r) e f = let (n, p) = number_positive r in cc
+step_distinct (Ok None) (Ok (Some t)) e f = cc
+step_distinct (Ok None) (Ok None) e f = refl
+step_distinct (Ok None) (Err r) e f = let (n, p) = number_positive r in cc
+step_distinct (Err r) (Ok (Some t)) e f = let (n, p) = number_positive r in cc
+step_distinct (Err r) (Ok None) e f = let (n, p) = number_positive r in cc
+step_distinct (Err r) (Err s) e f = rw (told_distinct r s e)
+
+-- so that `StepRead` determines the whole answer
 pub step_read_distinct : {w : List ℕ} {r i : ℕ} (a b : Result (Option SelectorStep) Refusal) → StepRead w r i a → StepRead w r i b → a ≡ b
-step_read_distinct a b h k = by a b (h.verdict ∙ sym k.verdict) (h.step ∙ sym k.step)
-  where
-    by : (a b : Result (Option SelectorStep) Refusal) → step_told a ≡ step_told b → step_of a ≡ step_of b → a ≡ b
-    by (Ok (Some s)) (Ok (Some t)) e f = rw f
-    by (Ok (Some s)) (Ok None) e f = cc
-    by (Ok (Some s)) (Err r) e f = let (n, p) = number_positive r in cc
-    by (Ok None) (Ok (Some t)) e f = cc
-    by (Ok None) (Ok None) e f = refl
-    by (Ok None) (Err r) e f = let (n, p) = number_positive r in cc
-    by (Err r) (Ok (Some t)) e f = let (n, p) = number_positive r in cc
-    by (Err r) (Ok None) e f = let (n, p) = number_positive r in cc
-    by (Err r) (Err s) e f = rw (told_distinct r s e)
+step_read_distinct a b h k = step_distinct a b (h.verdict ∙ sym k.verdict) (h.step ∙ sym k.step)
