@@ -3,15 +3,18 @@
 use mathlib.Core.Path.{◌≡◌, refl, sym, ap, ◌∙◌}
 use mathlib.Core.Bool.{Bool}
 use mathlib.Core.List.{List, [], ◌∷◌, ◌++◌}
-use Prim.Native.Nat.{ℕ, ◌-◌, ◌^◌, ◌≤◌, ◌<◌}
+use Prim.Native.Nat.{ℕ, ◌-◌, ◌^◌, ◌%◌, ◌≤◌, ◌<◌}
 use native.Mathlib.Nat.{pow-le-pow_right}
 use native.Mathlib.Decide.{dec_lt}
 use native.Mathlib.Omega.{arith}
-use lib.ListN.{drop}
+use lib.ListN.{length, drop, get_or}
+use Rattle.std.specs.Prelude.{min}
+use Rattle.std.proofs.lemmas.List.{ext_get_or}
 use Rattle.lines.specs.Text.{Laid, LaidNumber, first_words, Read}
 use Rattle.screen.specs.Labelled.{Labelled}
 use Rattle.screen.specs.Ends.{Ends}
-use Rattle.items.specs.Said.{kept, SaidEnd, SaidNumber, SaidNumbers, SaidLine}
+use Rattle.items.specs.Said.{kept, SaidEnd, SaidNumber, SaidNumbers, SaidLine, IsSaid}
+use Rattle.items.specs.declared.said.Said.{Said}
 
 -- ---- a count of digits that is the fewest is no more than one that holds the number
 
@@ -71,3 +74,23 @@ said_line_determined {list = list} p q =
     let (e, f) = text_determined p.first q.first in
     let (g, h) = said_numbers_determined list (rw (e, f) at p.numbers) q.numbers in
     said_end_determined (rw (g, h) at p.last) q.last
+
+-- ---- `Said::from` an answer; `halves::halves`. `halves::half` says its answer
+
+pub said_from_determined : (numbers : List ℕ) (a b : Said) → IsSaid numbers a.count a.list → IsSaid numbers b.count b.list → a ≡ b
+said_from_determined numbers a b p q = λ i. record { count = (p.0 ∙ sym q.0) i; list = (p.1 ∙ sym q.1) i }
+
+-- its clauses
+pub record Halved (words before : List ℕ) (r : ℕ) (after : List ℕ) : Type 0 where
+  pub count : r ≡ min (length words) (length before)
+  pub halved : (k : ℕ) → k < r → get_or after k 0 ≡ get_or words k 0 % 65536
+  pub kept : (k : ℕ) → r ≤ k → get_or after k 0 ≡ get_or before k 0
+  pub as_long : length after ≡ length before
+
+pub halves_determined : {words before : List ℕ} {r r' : ℕ} {after after' : List ℕ} → Halved words before r after → Halved words before r' after' → (r ≡ r') × (after ≡ after')
+halves_determined {r = r} {r' = r'} {after = after} {after' = after'} p q =
+    let e = p.count ∙ sym q.count in
+    (e, ext_get_or 0 after after' (p.as_long ∙ sym q.as_long) (λ k h. elim (dec_lt k r) [
+      | yes m ↦ p.halved k m ∙ sym (q.halved k (omega (arith, e, m)))
+      | no m ↦ p.kept k (omega (arith, m)) ∙ sym (q.kept k (omega (arith, e, m)))
+    ]))

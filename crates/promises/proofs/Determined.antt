@@ -7,7 +7,7 @@ use Prim.Native.Nat.{ℕ, suc}
 use lib.ListN.{length, get_elem?}
 use lib.Dec.{eqb}
 use denote.Ref.{Bor}
-use Rattle.std.specs.Prelude.{Result, Option, ⊤}
+use Rattle.std.specs.Prelude.{Result, Option, Some, None, is_some, IfSome, ⊤}
 use Rattle.lent.specs.declared.Refusal.{Refusal}
 use Rattle.typed.specs.declared.TypeTag.{TypeTag}
 use Rattle.typed.specs.declared.PartTag.{PartTag}
@@ -31,6 +31,8 @@ use Rattle.style.specs.Looking.{length_told, containing_told, position_told, kin
 use Rattle.style.proofs.Distinct.{length_distinct, containing_distinct, position_distinct, kind_distinct, plain_distinct, resource_distinct, ids_determined}
 use Rattle.sheet.specs.Layout.{rules_in, styles_in, ids_in}
 use Rattle.sheet.specs.Sheets.{counts_for, rule_at, style_at}
+use Rattle.sheet.specs.Shape.{sheet_shape}
+use Rattle.sheet.specs.declared.Sheet.{Sheet}
 use Rattle.reading.specs.Reading.{counting_told, emptiness_told, rule_told, style_told, entry_told, combinator_told, sheet_verdict, rule_verdict, weight_verdict, emptiness_of, rule_numbers, style_numbers, entry_numbers, combinator_numbers, style_there, StepRead}
 use Rattle.reading.proofs.Distinct.{counting_distinct, emptiness_distinct, rule_distinct, style_distinct, entry_distinct, combinator_distinct, step_read_distinct}
 use Rattle.given.specs.Given.{Group}
@@ -71,7 +73,7 @@ use Rattle.promises.proofs.Checked.{plain_append, plain_below, checks_alike}
 module _ {A : Type 0} where
   -- a contract that says what the answer, or the memory at exit, is. These calls have no other: `lent::Refusal`'s; those of `lent::words` and of `idset`;
   -- `lent::lists::address`, `cell`, `start_of`; `PropertyId::index`, `compare`; the constructors, `row` and `from_row` of `SelectorInputs` and `SelectorStep`;
-  -- `typed::tag_flag`, `tag_number`, `tag_from_words`, `row_words`; `SelectorCombinator::from`; those of `sheet::shape`, `table::shape`; those of `admit::sources`,
+  -- `Tag::number`, `tagged`; `typed::tag_flag`, `tag_number`, `tag_from_words`, `row_words`, `numbers`, `ids_from`; `SelectorCombinator::from`; those of `sheet::shape`, `table::shape`; those of `admit::sources`,
   -- `joining::cascades` and `matcher::states` that don't check; `root_state`; `cursor::index_after`; `CascadeEntryKey::compare`; `ChannelSet::contains`, `is_empty`, `len`.
   pub said_determined : (x : A) → Determined (λ r. r ≡ x)
   said_determined x a b p q = p ∙ sym q
@@ -92,6 +94,19 @@ pairs e = λ i. (e.0 i, e.1 i)
 
 pub property_determined : (index : ℕ) → Determined (λ (r : PropertyId). r.0 ≡ index)
 property_determined index a b p q = ap (λ (n : ℕ). record { 0 = n }) (p ∙ sym q)
+
+-- ---- sheet: `Sheet::of`. A sheet is its words, and a proof
+
+abbrev pub words_in : Option Sheet → Option (Bor (List ℕ))
+words_in (Some s) = Some s.words
+words_in None = None
+
+pub sheet_of_determined : (words : Bor (List ℕ)) (a b : Option Sheet) → is_some a ≡ sheet_shape words.now → IfSome a (λ s. s.words ≡ words)
+    → is_some b ≡ sheet_shape words.now → IfSome b (λ s. s.words ≡ words) → words_in a ≡ words_in b
+sheet_of_determined words (Some s) (Some t) e p f q = ap Some (p ∙ sym q)
+sheet_of_determined words (Some s) None e p f q = cc
+sheet_of_determined words None (Some t) e p f q = cc
+sheet_of_determined words None None e p f q = refl
 
 -- ---- selector: `matches_path`, `diagnose_path`; `specificity` (ranking 0), `level3_specificity` (ranking 1)
 
