@@ -39,7 +39,7 @@ use Rattle.promises.specs.Paths.{rules_on}
 use Rattle.promises.proofs.Listed.{count_is_length, listed_exactly, listed_ascending, listed_is, equal_subjects_one_child, kept_found, child_state, next_number, covered_in_shape}
 
 module _ {w : List ℕ} where
-  -- ---- `build`, where it answers Built
+  -- ---- `build`, where it answers Ok
 
   module _ {t t' : Table} {stamp ranking : ℕ} (eight : length t.head ≡ 8) (b : Build w stamp ranking t (Ok tt) t') where
     pub build_covers : Covered w t'

@@ -29,7 +29,7 @@ use Rattle.winners.specs.Winners.{Place, style, rule}
 use Rattle.looking.specs.Answers.{winner_told}
 use Rattle.promises.specs.Refusing.{First, here, later, None, InTurn, Refusing, Guarding}
 
--- ---- `first_of` is what the checks give: so it is of the calls that answer a verdict's number, those of `admit` and `joining` and `matcher::states::state_verdict`
+-- ---- `first_of` is what the checks give: so it is of the calls that answer a verdict, the checks of `admit` and `joining` and `matcher::states::check_state`
 
 first_number : (l : List Check) (n : ℕ) → First l n → first_of l ≡ n
 first_number [] n x = elim x [ ]

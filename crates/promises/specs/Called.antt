@@ -13,7 +13,7 @@ module _ (w : List ℕ) (ranking : ℕ) where
   -- Demand 3: "a table built of it and written only by accepted calls, in any order", and of that table "a state reached by a path" from the root since the last
   -- build: the memory now, the state's number and stamp as they were answered, and the path. `w` is the words of the sheet, the same at every call
   pub data Called : Table → ℕ → ℕ → List Tags → Type 0 where
-    -- `build` answers Built: the root, of number 0. The head is an array of eight words
+    -- `build` answers Ok: the root, of number 0. The head is an array of eight words
     built : {t t' : Table} {stamp : ℕ} → length t.head ≡ 8 → Build w stamp ranking t (Ok tt) t' → Called t' 0 stamp []
     -- `enter_subject` under this state answers another, one subject further
     entered : {t t' : Table} {number stamp : ℕ} {path : List Tags} {s : MatchState} → Called t number stamp path
