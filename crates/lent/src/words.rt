@@ -23,18 +23,18 @@ pub fn put(words: &mut [u32], at: usize, value: u32)
     }
 }
 
-// What `list` has, stored one after the other from `at` on.
+// What `list` has, stored one after the other from `at` on. By a loop: for `copy_from_slice` an archive for C needs `memmove` from outside.
 pub fn copy_into<T: Copy>(words: &mut [T], at: usize, list: &[T])
     ensures { words.new ≡ sets words.old at list.now }
 {
-    if words.len() <= at {
-        return;
-    }
-    let room = words.len() - at;
-    if list.len() <= room {
-        words[at..at + list.len()].copy_from_slice(list);
-    } else {
-        words[at..].copy_from_slice(&list[..room]);
+    for (j, x) in list.iter().enumerate() {
+        if words.len() <= at {
+            return;
+        }
+        if words.len() - at <= j {
+            return;
+        }
+        words[at + j] = *x;
     }
 }
 

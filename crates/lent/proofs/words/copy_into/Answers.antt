@@ -1,13 +1,19 @@
 use native.Mathlib.Omega.{arith}
-use mathlib.Core.Path.{sym}
-use Rattle.lent.proofs.Copying.{sets_out, copy_whole, copy_front}
+use borrow.Author.Rules.{rules}
+use Rattle.lent.proofs.Copying.{copy_start, copy_one, copy_end, copy_out}
 use Rattle.lent.proofs.words.copy_into.Goals as goal
 
+pub loop-j-init : goal.loop-j-init
+loop-j-init g c = copy_start _ _ _
+
 pub returns-then-words-at : goal.returns-then-words-at
-returns-then-words-at g c = sym (sets_out c.args.words.now c.args.at c.args.list.now c.if-words-at.true)
+returns-then-words-at g c = copy_out c.loop-j.invariant (omega arith)
 
-pub returns-then-list-room : goal.returns-then-list-room
-returns-then-list-room g c = copy_whole _ _ _ _ _ c.copy_from_slice.ensures.after (omega arith) (omega arith)
+pub returns-then-words-at-2 : goal.returns-then-words-at-2
+returns-then-words-at-2 g c = copy_out c.loop-j.invariant (omega arith)
 
-pub returns-else-list-room : goal.returns-else-list-room
-returns-else-list-room g c = copy_front _ _ _ _ _ c.copy_from_slice-else-list-room.ensures.after (omega arith) (omega arith) (omega arith)
+pub loop-j-preserved : goal.loop-j-preserved
+loop-j-preserved g c = search (copy_one, rules)
+
+pub returns : goal.returns
+returns g c = search (copy_end, rules)
