@@ -1,16 +1,16 @@
 -- The ways through the functions that take a record of those up to kind 8. Assumes nothing.
 use mathlib.Core.Path.{◌≡◌, refl, sym, ap, ◌∙◌, subst}
 use mathlib.Core.Bool.{cond, true, false}
-use mathlib.Core.List.{List, []}
+use mathlib.Core.List.{List, [], ◌∷◌}
 use Prim.Native.Nat.{ℕ, ◌+◌, ◌≤◌, ◌<◌}
 use native.Mathlib.Omega.{arith}
 use native.Mathlib.Decide.{ℕ_discrete}
-use lib.ListN.{replicate, length-replicate}
+use lib.ListN.{get_or, drop, replicate, length-replicate}
 use lib.Seq.{sets}
 use lib.Dec.{eqb}
 use borrow.Author.Tests.{le-ltb, lt-ltb, eq-eqb, ne_eqb}
 use Rattle.std.specs.Prelude.{Result, Ok, Err}
-use Rattle.lent.specs.Refusals.{number_of, first_of}
+use Rattle.lent.specs.Refusals.{number_of, added, told, first_of}
 use Rattle.lent.specs.declared.Refusal.{Refusal}
 use Rattle.lent.specs.declared.Refusal.TheVariants.{NotAscending, OverSize, CombinatorCount, NotAState, NoRoom, CodeOutOfRange, NoSourceIndex, BufferTooShort, NoSuchRule, BadRecord, BrokenShape}
 use Rattle.lent.proofs.Refusals.{refusal_number}
@@ -38,18 +38,27 @@ use Rattle.house.proofs.Front.{item_size}
 
 -- ---- the refusal of a record at its offset
 
+-- its number, and of 10 the offset
+placed_told : (r : Refusal) (offset : ℕ) → told (placed r offset) ≡ number_of r ∷ cond (eqb (number_of r) 10) (offset ∷ []) []
+placed_told NotAscending offset = refl
+placed_told OverSize offset = refl
+placed_told CombinatorCount offset = refl
+placed_told NotAState offset = refl
+placed_told NoRoom offset = refl
+placed_told CodeOutOfRange offset = refl
+placed_told NoSourceIndex offset = refl
+placed_told BufferTooShort offset = refl
+placed_told NoSuchRule offset = refl
+placed_told (BadRecord at) offset = refl
+placed_told BrokenShape offset = refl
+
 pub placed_number : (r : Refusal) (offset : ℕ) → number_of (placed r offset) ≡ number_of r
-placed_number NotAscending offset = refl
-placed_number OverSize offset = refl
-placed_number CombinatorCount offset = refl
-placed_number NotAState offset = refl
-placed_number NoRoom offset = refl
-placed_number CodeOutOfRange offset = refl
-placed_number NoSourceIndex offset = refl
-placed_number BufferTooShort offset = refl
-placed_number NoSuchRule offset = refl
-placed_number (BadRecord at) offset = refl
-placed_number BrokenShape offset = refl
+placed_number r offset = ap (λ (l : List ℕ). get_or l 0 0) (placed_told r offset)
+
+placed_adds : (r : Refusal) (offset : ℕ) → number_of (placed r offset) ≡ 10 → added (placed r offset) ≡ offset ∷ []
+placed_adds r offset e =
+    let ten : number_of r ≡ 10 = sym (placed_number r offset) ∙ e in
+    ap (drop 1) (placed_told r offset) ∙ rw ten
 
 pub placed_same : (r : Refusal) (offset : ℕ) → ((at : ℕ) → r ≡ BadRecord at → ⊥) → r ≡ placed r offset
 placed_same NotAscending offset n = refl
@@ -83,6 +92,7 @@ module _ (m : Making) (w : List ℕ) (g : Group) where
       does = λ x. rw (placed_number e m.offset) (o x);
       stands = record { before = λ h. absurd (omega arith); ready = λ h. absurd (omega arith); room = room };
       keeps = λ _. (refl, refl, refl);
+      adds = placed_adds e m.offset;
       quiet = λ n. absurd (n refl);
       some = λ z. absurd (omega arith);
     };
@@ -95,7 +105,7 @@ abbrev led : Making → Stage → ℕ → ℕ → Filled → Making
 led m stage ranking stamp f = record { stage = stage; ranking = ranking; stamp = stamp; offset = m.offset; at = m.at; filled = f }
 
 -- where none was refused no number is told
-quiet_in : (s : Stage) → (state_in s ≡ 2 → ⊥) → verdict_in s ≡ 0
+pub quiet_in : (s : Stage) → (state_in s ≡ 2 → ⊥) → verdict_in s ≡ 0
 quiet_in Unbegun n = refl
 quiet_in Begun n = refl
 quiet_in (Stopped r) n = absurd (n refl)
@@ -109,7 +119,14 @@ took_on : {m : Making} {w : List ℕ} {g : Group} {r : Record} {stage : Stage} {
     → Stands (led m stage ranking stamp f) w' g'
     → Took m w g r (led m stage ranking stamp f) w' g'
 took_on {m} {stage = stage} b n z e s = record {
-  done = record { does = e; stands = s; keeps = λ x. absurd (n x); quiet = λ _. quiet_in stage n ∙ sym (quiet_in m.stage b); some = z };
+  done = record {
+    does = e;
+    stands = s;
+    keeps = λ x. absurd (n x);
+    adds = λ x. absurd (omega (arith, x, quiet_in stage n));
+    quiet = λ _. quiet_in stage n ∙ sym (quiet_in m.stage b);
+    some = z;
+  };
   at = refl;
   offset = refl;
 }
@@ -284,6 +301,7 @@ module _ (m : Making) (w : List ℕ) (g : Group) (bytes : List ℕ) (m' : Making
           does = λ room. rw (← e) (t.done.does room ∙ did_moved room m' w' g' n o (m'.at + size));
           stands = moved_stands o (m'.at + size) t.done.stands;
           keeps = λ s. absurd (n s);
+          adds = t.done.adds;
           quiet = t.done.quiet;
           some = t.done.some;
         };

@@ -49,7 +49,7 @@ pub adds_misplaced : (w : List ℕ) (f : Filled) (m : Group) (item : Record) (r 
     → r ≡ Err (BadRecord 0) → Adds (added_fault w (open_of f m) item) f m (added_to (open_of f m) item) r m
 unfolding added_fault added_to
 adds_misplaced w f m item r s a b c d e =
-    rw (ne_eqb item.kind 4 a, ne_eqb item.kind 5 b, ne_eqb item.kind 6 c, ne_eqb item.kind 7 d) (adds_refused s refl e refl)
+    rw (ne_eqb item.kind 4 a, ne_eqb item.kind 5 b, ne_eqb item.kind 6 c, ne_eqb item.kind 7 d) (adds_refused s refl e refl refl)
 
 -- ---- any kind
 
@@ -60,6 +60,7 @@ module _ (w : List ℕ) (f : Filled) (m : Group) (item : Record) (r : Result Fil
   unfolding making_verdict sheet_after
   takes_closing k e o c = record {
     answer = c.answer ∙ rw (k, e);
+    offset = c.offset;
     sheet = c.sheet ∙ rw (k, e);
     opens = λ z. c.opens z ∙ o;
     keeps = λ n. (c.keeps n, refl);
@@ -89,6 +90,7 @@ module _ (w : List ℕ) (f : Filled) (m : Group) (item : Record) (r : Result Fil
   unfolding making_verdict sheet_after open_after
   takes_added a b c z t = record {
     answer = rw (ne_eqb item.kind 2 a, ne_eqb item.kind 3 b, ne_eqb item.kind 8 c) t.answer;
+    offset = t.offset;
     sheet = rw (ne_eqb item.kind 2 a, ne_eqb item.kind 3 b, ne_eqb item.kind 8 c) (cond_same (eqb (added_fault w (open_of f m) item) 0) w);
     opens = rw (ne_eqb item.kind 2 a, ne_eqb item.kind 3 b, ne_eqb item.kind 8 c) t.opens;
     keeps = t.keeps;
