@@ -32,7 +32,7 @@ use Rattle.house.specs.declared.Stage.{Stage}
 use Rattle.house.specs.declared.Stage.TheVariants.{Unbegun, Begun, Stopped, Done}
 use Rattle.house.specs.House.{first, making, stops, leads, empty_sheet, first_verdict, making_outcome, outcome}
 use Rattle.house.specs.Memory.{state_in, verdict_in, phase_of, Before, Stands}
-use Rattle.making.specs.Taking.{placed, refusing, moved, next_phase, did, Took, Past, TookFront, GoesOn}
+use Rattle.making.specs.Taking.{staged, placed, refusing, moved, next_phase, did, Took, Past, TookFront, GoesOn}
 use Rattle.house.proofs.Never.{build_never_refused}
 use Rattle.house.proofs.Front.{item_size}
 
@@ -55,7 +55,7 @@ placed_told BrokenShape offset = refl
 pub placed_number : (r : Refusal) (offset : ℕ) → number_of (placed r offset) ≡ number_of r
 placed_number r offset = ap (λ (l : List ℕ). get_or l 0 0) (placed_told r offset)
 
-placed_adds : (r : Refusal) (offset : ℕ) → number_of (placed r offset) ≡ 10 → added (placed r offset) ≡ offset ∷ []
+pub placed_adds : (r : Refusal) (offset : ℕ) → number_of (placed r offset) ≡ 10 → added (placed r offset) ≡ offset ∷ []
 placed_adds r offset e =
     let ten : number_of r ≡ 10 = sym (placed_number r offset) ∙ e in
     ap (drop 1) (placed_told r offset) ∙ rw ten
@@ -85,14 +85,16 @@ module _ (m : Making) (w : List ℕ) (g : Group) where
   phase_making e = rw e
 
   -- a refused record
-  took_refused : (r : Record) (e : Refusal) → Roomy g → ((room : ℕ) → outcome room (phase_of m w g) m.offset r ≡ stops (refused_line (number_of e) m.offset)) → Took m w g r (refusing m e) w g
+  took_refused : (r : Record) (e : Refusal) → (number_of e ≡ 10 → added e ≡ m.offset ∷ []) → Roomy g
+      → ((room : ℕ) → outcome room (phase_of m w g) m.offset r ≡ stops (refused_line (number_of e) m.offset))
+      → Took m w g r (staged m (Stopped e)) w g
   unfolding did
-  took_refused r e room o = record {
+  took_refused r e a room o = record {
     done = record {
-      does = λ x. rw (placed_number e m.offset) (o x);
+      does = o;
       stands = record { before = λ h. absurd (omega arith); ready = λ h. absurd (omega arith); room = room };
       keeps = λ _. (refl, refl, refl);
-      adds = placed_adds e m.offset;
+      adds = a;
       quiet = λ n. absurd (n refl);
       some = λ z. absurd (omega arith);
     };
@@ -169,7 +171,8 @@ open_nothing f g e = rw e
 
 module _ (m : Making) (w : List ℕ) (g : Group) (b : Before m w g) (z : state_in m.stage ≡ 0) (r : Record) where
   begin_refused : (v : Refusal) → first_verdict r ≡ number_of v → eqb (number_of v) 0 ≡ false → Took m w g r (refusing m v) w g
-  begin_refused v e n = took_refused m w g r v b.sound.room (λ room. rw (phase_first m w g z) (unfold outcome in rw (e, n)))
+  begin_refused v e n =
+      took_refused m w g r (placed v m.offset) (placed_adds v m.offset) b.sound.room (λ room. rw (phase_first m w g z, placed_number v m.offset) (unfold outcome in rw (e, n)))
 
   pub begin_kind : (m' : Making) (at : ℕ) → m' ≡ refusing m (BadRecord at) → (r.kind ≡ 1 → ⊥) → Took m w g r m' w g
   begin_kind m' at q n = rw q (begin_refused (BadRecord at) (not_first r n) refl)
@@ -203,11 +206,12 @@ abbrev gone : Making → Stage → Filled → Making
 gone m stage f = led m stage m.ranking m.stamp f
 
 module _ (m : Making) (w : List ℕ) (g : Group) (b : Before m w g) (z : state_in m.stage ≡ 1) (r : Record) (w' : List ℕ) (g' : Group) where
-  go_refused : (e : Refusal) → Takes w m.filled g r (Err e) w' g' → (m' : Making) → m' ≡ refusing m e → Took m w g r m' w' g'
-  go_refused e k m' q =
+  go_refused : (e x : Refusal) → Takes w m.filled g r (Err e) w' g' → (m' : Making) → m' ≡ staged m (Stopped x)
+      → number_of x ≡ number_of e → (number_of x ≡ 10 → added x ≡ m.offset ∷ []) → Took m w g r m' w' g'
+  go_refused e x k m' q n a =
       let same : w' ≡ w = k.sheet ∙ rw (← k.answer, ne_eqb (number_of e) 0 (refusal_number e)) in
-      rw (q, same, (k.keeps (refusal_number e)).1) (took_refused m w g r e b.sound.room (λ room.
-      rw (phase_making m w g z) (unfold outcome making_outcome in rw (← k.answer, ne_eqb (number_of e) 0 (refusal_number e)))))
+      rw (q, same, (k.keeps (refusal_number e)).1) (took_refused m w g r x a b.sound.room (λ room.
+      rw (phase_making m w g z, n) (unfold outcome making_outcome in rw (← k.answer, ne_eqb (number_of e) 0 (refusal_number e)))))
 
   module _ (f : Filled) (k : Takes w m.filled g r (Ok f) w' g') where
     zero_verdict : making_verdict w (open_of m.filled g) r ≡ 0
@@ -317,10 +321,11 @@ module _ (m : Making) (w : List ℕ) (g : Group) (bytes : List ℕ) (m' : Making
 
 -- one that isn't the first, in whatever memory it was taken
 module _ (m : Making) (r : Record) (t : Result Filled Refusal) where
-  pub on_refused : (e : Refusal) → t ≡ Err e → (m' : Making) → m' ≡ refusing m e → GoesOn m r t m'
-  on_refused e i m' q = rw i (record {
+  pub on_refused : (e : Refusal) → t ≡ Err e → (x : Refusal) (m' : Making) → m' ≡ staged m (Stopped x)
+      → number_of x ≡ number_of e → (number_of x ≡ 10 → added x ≡ m.offset ∷ []) → GoesOn m r t m'
+  on_refused e i x m' q n a = rw i (record {
     goes = λ w g w' g' bytes b z l k.
-        front_refused m w g bytes m' w' g' r (size_of r.kind) m' l (go_refused m w g b z r w' g' e k m' q) refl (ap (λ (x : Making). state_in x.stage) q);
+        front_refused m w g bytes m' w' g' r (size_of r.kind) m' l (go_refused m w g b z r w' g' e x k m' q n a) refl (ap (λ (x : Making). state_in x.stage) q);
   })
 
   pub on_passed : (f : Filled) → t ≡ Ok f → (s : Stage) → s ≡ stage_after r.kind → (size : ℕ) → size ≡ size_of r.kind → (m'' : Making) → Past (gone m s f) size m'' → GoesOn m r t m''
