@@ -5,7 +5,7 @@ use Rattle.making.proofs.held.go_on.Goals as goal
 -- `making::held::go_on` meets its contract. Assumes nothing.
 
 pub returns-in-Err : goal.returns-in-Err
-returns-in-Err c = on_refused _ _ _ _ c.in-Err.is _ _ c.refused.ensures (placed_number _ _) (placed_adds _ _)
+returns-in-Err c = search (on_refused, placed_number, placed_adds, c.in-Err.is, rules)
 
 pub returns-in-Ok : goal.returns-in-Ok
 returns-in-Ok c = search (on_passed, c.in-Ok.is, rules)
