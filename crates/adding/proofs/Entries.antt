@@ -21,7 +21,7 @@ use Rattle.given.specs.Pushing.{all_entries_in}
 use Rattle.gather.specs.declared.Filled.{Filled}
 use Rattle.gather.specs.Opened.{ids_given, one_more, entries_given, with_entry}
 use Rattle.gather.specs.Making.{is_direct, group_of, in_rule, last_entries, entry_faults}
-use Rattle.gather.specs.Memory.{open_of, Sound, Adds, kind_in, origin_in}
+use Rattle.gather.specs.Memory.{open_of, Sound, Adds, kind_in}
 use Rattle.gather.proofs.Filling.{one_grown, last, last_in, last_kept, take_more}
 use Rattle.gather.proofs.Opening.{open_nothing, open_direct, open_group, kinds, adds_refused, adds_accepted, rules_counted, entries_counted}
 

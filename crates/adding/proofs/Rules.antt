@@ -18,7 +18,7 @@ use Rattle.given.specs.Given.{Group, given}
 use Rattle.gather.specs.declared.Filled.{Filled}
 use Rattle.gather.specs.Opened.{ids_given, last_of, with_rule}
 use Rattle.gather.specs.Making.{is_group, in_group, rule_faults}
-use Rattle.gather.specs.Memory.{filled_of, open_of, Sound, Adds, kind_in, origin_in}
+use Rattle.gather.specs.Memory.{filled_of, open_of, Sound, Adds, kind_in}
 use Rattle.gather.proofs.Filling.{rules_grown, last_new, steps_few}
 use Rattle.gather.proofs.Opening.{open_group, adds_refused, adds_accepted, rules_counted, not_group}
 

@@ -25,7 +25,7 @@ use Rattle.records.specs.Rows.{empty_row}
 use Rattle.gather.specs.declared.Filled.{Filled}
 use Rattle.gather.specs.Opened.{rule_count, ids_given, last_of, one_more, with_step}
 use Rattle.gather.specs.Making.{in_rule, in_group, step_faults}
-use Rattle.gather.specs.Memory.{filled_of, open_of, Sound, Adds, kind_in, origin_in}
+use Rattle.gather.specs.Memory.{filled_of, open_of, Sound, Adds, kind_in}
 use Rattle.gather.proofs.Filling.{steps_grown, one_grown, last, last_in, last_more, last_kept, take_more}
 use Rattle.gather.proofs.Ids.{ids_empty}
 use Rattle.gather.proofs.Opening.{open_group, adds_refused, adds_accepted, rules_counted, filled_rules, not_group}
