@@ -62,7 +62,8 @@ module _ {input : List ℕ} {start : Making} {w₀ : List ℕ} {g₀ : Group} {m
     | no n ↦ unfold phase_left phase_of in rw (e, ne_eqb m.at 0 n, ne_eqb (state_in m.stage) 3 (λ e. omega arith), ne_eqb (state_in m.stage) 0 (λ e. n (f.first e)))
   ]
 
-  made_refused : (s : Stage) → state_in s ≡ 2 → (verdict_in s ≡ 10 → added_in s ≡ m.offset ∷ []) → ((room : ℕ) → Refused room (phase_of m w g) m.offset (drop m.at input) (verdict_in s)) → MadeSoFar input start w₀ g₀ (staged m s) w g
+  made_refused : (s : Stage) → state_in s ≡ 2 → (verdict_in s ≡ 10 → added_in s ≡ m.offset ∷ [])
+      → ((room : ℕ) → Refused room (phase_of m w g) m.offset (drop m.at input) (verdict_in s)) → MadeSoFar input start w₀ g₀ (staged m s) w g
   made_refused s e a r = record {
     within = f.within;
     place = f.place;

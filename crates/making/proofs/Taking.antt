@@ -172,7 +172,8 @@ open_nothing f g e = rw e
 module _ (m : Making) (w : List ℕ) (g : Group) (b : Before m w g) (z : state_in m.stage ≡ 0) (r : Record) where
   begin_refused : (v : Refusal) → first_verdict r ≡ number_of v → eqb (number_of v) 0 ≡ false → Took m w g r (refusing m v) w g
   begin_refused v e n =
-      took_refused m w g r (placed v m.offset) (placed_adds v m.offset) b.sound.room (λ room. rw (phase_first m w g z, placed_number v m.offset) (unfold outcome in rw (e, n)))
+      took_refused m w g r (placed v m.offset) (placed_adds v m.offset) b.sound.room (λ room.
+      rw (phase_first m w g z, placed_number v m.offset) (unfold outcome in rw (e, n)))
 
   pub begin_kind : (m' : Making) (at : ℕ) → m' ≡ refusing m (BadRecord at) → (r.kind ≡ 1 → ⊥) → Took m w g r m' w g
   begin_kind m' at q n = rw q (begin_refused (BadRecord at) (not_first r n) refl)
