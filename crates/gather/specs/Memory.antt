@@ -85,7 +85,7 @@ offset_of (Err refusal) = get_or (added refusal) 0 0
 -- of a kind that only adds to what is open
 pub record Adds (fault : ℕ) (f : Filled) (m : Group) (after : Open) (r : Result Filled Refusal) (m' : Group) : Type 0 where
   pub answer : verdict_of r ≡ fault
-  -- a refusal 10 has no offset yet
+  -- a refusal 10 has offset 0: with its number that is the whole refusal
   pub offset : offset_of r ≡ 0
   pub opens : verdict_of r ≡ 0 → open_of (filled_by r f) m' ≡ after
   pub keeps : (verdict_of r ≡ 0 → ⊥) → (filled_by r f ≡ f) × (m' ≡ m)
