@@ -21,7 +21,7 @@ use Rattle.given.specs.Pushing.{all_entries_in}
 use Rattle.gather.specs.declared.Filled.{Filled}
 use Rattle.gather.specs.Opened.{ids_given, one_more, entries_given, with_entry}
 use Rattle.gather.specs.Making.{is_direct, group_of, in_rule, last_entries, entry_faults}
-use Rattle.gather.specs.Memory.{open_of, Sound, Adds, kind_in, origin_in}
+use Rattle.gather.specs.Memory.{open_of, Sound, Adds, kind_in}
 use Rattle.gather.proofs.Filling.{one_grown, last, last_in, last_kept, take_more}
 use Rattle.gather.proofs.Opening.{open_nothing, open_direct, open_group, kinds, adds_refused, adds_accepted, rules_counted, entries_counted}
 
@@ -93,7 +93,7 @@ module _ (w : List ℕ) (f : Filled) (r s c p k n : List ℕ) (h : Sound f (give
       pub entry_outside : b ≡ false → t ≡ Err (BadRecord 0)
           → Adds (first_of (entry_faults w (open_of f lent) kind)) f lent (with_entry property kind number (open_of f lent)) t lent
       entry_outside x e =
-          adds_refused h (first_hit 10 true (not (is_direct (open_of f lent) || in_rule (open_of f lent))) _ (rw (sym styled_is, sym q, x)) refl) e refl
+          adds_refused h (first_hit 10 true (not (is_direct (open_of f lent) || in_rule (open_of f lent))) _ (rw (sym styled_is, sym q, x)) refl) e refl refl
 
     module _ (y : b ≡ true) where
       x : styled ≡ true
@@ -108,7 +108,7 @@ module _ (w : List ℕ) (f : Filled) (r s c p k n : List ℕ) (h : Sound f (give
       module _ (t : Result Filled Refusal) where
         pub entry_kind : 3 < kind → t ≡ Err (BadRecord 0)
             → Adds (first_of (entry_faults w (open_of f lent) kind)) f lent (with_entry property kind number (open_of f lent)) t lent
-        entry_kind l e = adds_refused h (limits true _ _ 10 (lt-ltb 3 kind l) refl refl (first_hit 10 true true _ refl refl)) e refl
+        entry_kind l e = adds_refused h (limits true _ _ 10 (lt-ltb 3 kind l) refl refl (first_hit 10 true true _ refl refl)) e refl refl
 
       module _ (l : kind ≤ 3) (m : ℕ) (o : m ≡ counted) where
         pub entry_over : (t : Result Filled Refusal) → 32 ≤ m → t ≡ Err OverSize
@@ -116,7 +116,7 @@ module _ (w : List ℕ) (f : Filled) (r s c p k n : List ℕ) (h : Sound f (give
         entry_over t g e =
             adds_refused h
             (limits false true _ 2 (le-ltb 3 kind l) (lt-ltb 32 (counted + 1) (omega arith)) refl (first_pass 10 2 false false _ refl refl (first_hit 2 true true _ refl refl)))
-            e refl
+            e refl refl
 
         module _ (g : m < 32) (a : ℕ) (z : a ≡ all_entries_in w) where
           pub entry_sheet_over : (t : Result Filled Refusal) → 4096 ≤ a + f.entries → t ≡ Err OverSize
@@ -125,7 +125,7 @@ module _ (w : List ℕ) (f : Filled) (r s c p k n : List ℕ) (h : Sound f (give
               adds_refused h
               (limits false false true 2 (le-ltb 3 kind l) (le-ltb 32 (counted + 1) (omega arith)) (lt-ltb 4096 (all_entries_in w + f.entries + 1) (omega arith))
               (first_pass 10 2 false false _ refl refl (first_pass 2 2 false false _ refl refl (first_hit 2 true true _ refl refl))))
-              e refl
+              e refl refl
 
           entry_fits : a + f.entries < 4096 → first_of (entry_faults w (open_of f lent) kind) ≡ 0
           entry_fits d =

@@ -24,7 +24,7 @@ use Rattle.lent.specs.All.{all_below}
 use Rattle.std.specs.Prelude.{Result, Ok, Err}
 use Rattle.lent.specs.declared.Refusal.{Refusal}
 use Rattle.lent.specs.declared.Refusal.TheVariants.{OverSize, BadRecord}
-use Rattle.lent.specs.Refusals.{first_of}
+use Rattle.lent.specs.Refusals.{number_of, first_of}
 use Rattle.lent.proofs.Refusals.{first_hit, first_pass, first_end}
 use Rattle.sheet.specs.Layout.{ids_in}
 use Rattle.given.specs.Given.{Group, given}
@@ -32,7 +32,7 @@ use Rattle.given.specs.Leaves.{Ids}
 use Rattle.gather.specs.declared.Filled.{Filled}
 use Rattle.gather.specs.Opened.{group, rule_count, last_of, last_row, ids_given, with_requirement}
 use Rattle.gather.specs.Making.{group_of, in_step, in_group, requirement_faults}
-use Rattle.gather.specs.Memory.{filled_of, open_of, Sound, Adds, kind_in, origin_in}
+use Rattle.gather.specs.Memory.{filled_of, open_of, Sound, offset_of, Adds, kind_in, origin_in}
 use Rattle.gather.proofs.Opening.{open_nothing, open_direct, open_group, kinds, adds_refused, adds_accepted, rules_counted, steps_room}
 use Rattle.gather.proofs.Filling.{last_in}
 use Rattle.gather.proofs.Ids.{drop_take, row_alone, fits_classes, fits_pseudos, row_fits_lem, fits_same, fits_read, ids_same, ids_next, row_before}
@@ -279,7 +279,7 @@ module _ (f : Filled) (m : Group) (s : Sound f m) where
             (first_pass 10 2 (not (in_step (open_of f m))) _ _ refl (rw i)
             (first_pass 10 2 (ltb 3 which) _ _ refl (le-ltb 3 which k)
             (first_hit 2 (item_over 8 which row) _ _ (rw (open_group f m step_kind, row_last)) o)))
-            t refl
+            t refl refl
 
       module _ (which id : ℕ) (o : item_over 8 which row ≡ false) (x : List ℕ) (put : x ≡ with_item 8 which id row) where
         put_sound : row_fits 8 x 0 ≡ true
@@ -335,7 +335,7 @@ module _ (f : Filled) (m : Group) (s : Sound f m) where
                 (first_pass 10 2 (ltb 3 which) _ _ refl (le-ltb 3 which k)
                 (first_pass 2 2 (item_over 8 which row) _ _ (rw (open_group f m step_kind, row_last)) o
                 (first_hit 2 (ltb 8192 (u + (f.ids - a + b))) _ _ last_test (lt-ltb 8192 (u + (f.ids - a + b)) h)))))
-                t refl
+                t refl refl
 
             abbrev counted : Filled
             counted = record { opening = f.opening; rules = f.rules; steps = f.steps; combinators = f.combinators; entries = f.entries; ids = f.ids - a + b }
@@ -381,15 +381,15 @@ module _ (f : Filled) (m : Group) (s : Sound f m) (w : List ℕ) (which id : ℕ
     (e : b ≡ (eqb (kind_in f.opening) 2 && (ltb 0 f.rules && ltb 0 (get_or m.rules (3 * f.rules - 3) 0)))) where
   pub stepless : b ≡ false → r ≡ Err (BadRecord 0)
       → Adds (first_of (requirement_faults w (open_of f m) which id)) f m (in_group (with_requirement which id) (open_of f m)) r m
-  stepless h t = adds_refused s (first_hit 10 (not (in_step (open_of f m))) _ _ refl (rw (← step_tested f m s b e, h))) t refl
+  stepless h t = adds_refused s (first_hit 10 (not (in_step (open_of f m))) _ _ refl (rw (← step_tested f m s b e, h))) t refl refl
 
-  pub which_refused : b ≡ true → 3 < which → r ≡ Err (BadRecord 0)
+  pub which_refused : {x : Refusal} → b ≡ true → 3 < which → r ≡ Err x → number_of x ≡ 10 → offset_of (Err x) ≡ 0
       → Adds (first_of (requirement_faults w (open_of f m) which id)) f m (in_group (with_requirement which id) (open_of f m)) r m
-  which_refused h k t =
+  which_refused h k t n z =
       adds_refused s
       (first_pass 10 10 (not (in_step (open_of f m))) _ _ refl (rw (← step_tested f m s b e, h))
       (first_hit 10 (ltb 3 which) _ _ refl (lt-ltb 3 which k)))
-      t refl
+      t n z
 
 -- ---- the test's ways out
 

@@ -18,7 +18,7 @@ use Rattle.given.specs.Given.{Group, given}
 use Rattle.gather.specs.declared.Filled.{Filled}
 use Rattle.gather.specs.Opened.{ids_given, last_of, with_rule}
 use Rattle.gather.specs.Making.{is_group, in_group, rule_faults}
-use Rattle.gather.specs.Memory.{filled_of, open_of, Sound, Adds, kind_in, origin_in}
+use Rattle.gather.specs.Memory.{filled_of, open_of, Sound, Adds, kind_in}
 use Rattle.gather.proofs.Filling.{rules_grown, last_new, steps_few}
 use Rattle.gather.proofs.Opening.{open_group, adds_refused, adds_accepted, rules_counted, not_group}
 
@@ -28,7 +28,7 @@ module _ (w : List ℕ) (f : Filled) (r s c p k n : List ℕ) (h : Sound f (give
 
   pub rule_outside : (kind_in f.opening ≡ 2 → ⊥) → t ≡ Err (BadRecord 0)
       → Adds (first_of (rule_faults w (open_of f lent))) f lent (in_group with_rule (open_of f lent)) t lent
-  rule_outside g e = adds_refused h (first_hit 10 true (not (is_group (open_of f lent))) _ (rw (not_group f lent h g)) refl) e refl
+  rule_outside g e = adds_refused h (first_hit 10 true (not (is_group (open_of f lent))) _ (rw (not_group f lent h g)) refl) e refl refl
 
   module _ (g : kind_in f.opening ≡ 2) where
     rule_limit : (b : Bool) → ltb 256 (rules_in w + f.rules + 1) ≡ b → (v : ℕ) → v ≡ first_of (check 2 b ∷ []) → v ≡ first_of (rule_faults w (open_of f lent))
@@ -37,7 +37,7 @@ module _ (w : List ℕ) (f : Filled) (r s c p k n : List ℕ) (h : Sound f (give
     -- the sheet's count of rules, as it was read
     pub rule_over : (a b : ℕ) → a ≡ b → b ≡ rules_in w → 256 ≤ a + f.rules → t ≡ Err OverSize
         → Adds (first_of (rule_faults w (open_of f lent))) f lent (in_group with_rule (open_of f lent)) t lent
-    rule_over a b i j l e = adds_refused h (rule_limit true (lt-ltb 256 (rules_in w + f.rules + 1) (omega arith)) 2 (first_hit 2 true true [] refl refl)) e refl
+    rule_over a b i j l e = adds_refused h (rule_limit true (lt-ltb 256 (rules_in w + f.rules + 1) (omega arith)) 2 (first_hit 2 true true [] refl refl)) e refl refl
 
     abbrev grown : Filled
     grown = record { opening = f.opening; rules = f.rules + 1; steps = f.steps; combinators = f.combinators; entries = f.entries; ids = f.ids }

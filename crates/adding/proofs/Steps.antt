@@ -25,7 +25,7 @@ use Rattle.records.specs.Rows.{empty_row}
 use Rattle.gather.specs.declared.Filled.{Filled}
 use Rattle.gather.specs.Opened.{rule_count, ids_given, last_of, one_more, with_step}
 use Rattle.gather.specs.Making.{in_rule, in_group, step_faults}
-use Rattle.gather.specs.Memory.{filled_of, open_of, Sound, Adds, kind_in, origin_in}
+use Rattle.gather.specs.Memory.{filled_of, open_of, Sound, Adds, kind_in}
 use Rattle.gather.proofs.Filling.{steps_grown, one_grown, last, last_in, last_more, last_kept, take_more}
 use Rattle.gather.proofs.Ids.{ids_empty}
 use Rattle.gather.proofs.Opening.{open_group, adds_refused, adds_accepted, rules_counted, filled_rules, not_group}
@@ -85,12 +85,12 @@ module _ (f : Filled) (r s c p k n : List ℕ) (h : Sound f (given r s c p k n))
     pub step_no_group : (kind_in f.opening ≡ 2 → ⊥) → t ≡ Err (BadRecord 0)
         → Adds (first_of (step_faults (open_of f lent) code)) f lent (in_group (with_step code) (open_of f lent)) t lent
     step_no_group g e =
-        adds_refused h (first_hit 10 true (not (in_rule (open_of f lent))) _ (rw (not_group f lent h g)) refl) e refl
+        adds_refused h (first_hit 10 true (not (in_rule (open_of f lent))) _ (rw (not_group f lent h g)) refl) e refl refl
 
     pub step_no_rule : kind_in f.opening ≡ 2 → f.rules ≡ 0 → t ≡ Err (BadRecord 0)
         → Adds (first_of (step_faults (open_of f lent) code)) f lent (in_group (with_step code) (open_of f lent)) t lent
     step_no_rule g z e =
-        adds_refused h (first_hit 10 true (not (in_rule (open_of f lent))) _ (rw (open_group f lent g, rules_counted f lent h, z)) refl) e refl
+        adds_refused h (first_hit 10 true (not (in_rule (open_of f lent))) _ (rw (open_group f lent g, rules_counted f lent h, z)) refl) e refl refl
 
   module _ (u : 1 ≤ f.rules) where
     -- the number of steps before
@@ -190,12 +190,12 @@ module _ (f : Filled) (r s c p k n : List ℕ) (h : Sound f (given r s c p k n))
 
       pub step_first_code : before ≡ 0 → 0 < code → t ≡ Err (BadRecord 0)
           → Adds (first_of (step_faults (open_of f lent) code)) f lent (in_group (with_step code) (open_of f lent)) t lent
-      step_first_code z l e = adds_refused h (step_limits true _ 10 (rw z (lt-ltb 0 code l)) refl (first_hit 10 true true _ refl refl)) e refl
+      step_first_code z l e = adds_refused h (step_limits true _ 10 (rw z (lt-ltb 0 code l)) refl (first_hit 10 true true _ refl refl)) e refl refl
 
       pub step_later_code : (b : ℕ) → b ≡ before → 1 ≤ b → 1 < code → t ≡ Err (BadRecord 0)
           → Adds (first_of (step_faults (open_of f lent) code)) f lent (in_group (with_step code) (open_of f lent)) t lent
       step_later_code b a z l e =
-          adds_refused h (step_limits true _ 10 (rw (ne_eqb before 0 (λ x. omega arith)) (lt-ltb 1 code l)) refl (first_hit 10 true true _ refl refl)) e refl
+          adds_refused h (step_limits true _ 10 (rw (ne_eqb before 0 (λ x. omega arith)) (lt-ltb 1 code l)) refl (first_hit 10 true true _ refl refl)) e refl refl
 
       pub step_over : (b : ℕ) → b ≡ before → code ≤ 1 → 8 ≤ b → t ≡ Err OverSize
           → Adds (first_of (step_faults (open_of f lent) code)) f lent (in_group (with_step code) (open_of f lent)) t lent
@@ -203,7 +203,7 @@ module _ (f : Filled) (r s c p k n : List ℕ) (h : Sound f (given r s c p k n))
           adds_refused h
           (step_limits false true 2 (rw (ne_eqb before 0 (λ x. omega arith)) (le-ltb 1 code z)) (lt-ltb 8 (before + 1) (omega arith))
           (first_pass 10 2 false false _ refl refl (first_hit 2 true true _ refl refl)))
-          e refl
+          e refl refl
 
       pub step_first : before ≡ 0 → code ≤ 0 → (r' s' : List ℕ) → r' ≡ set r (3 * f.rules - 3) 1 → s' ≡ sets s (22 * f.steps) (empty_row 8)
           → t ≡ Ok (grown f.combinators)

@@ -1,11 +1,11 @@
 -- Laws of what a 2, 3 or 8 closes. Assumes nothing.
-use mathlib.Core.Path.{◌≡◌, refl, sym, ◌∙◌}
+use mathlib.Core.Path.{◌≡◌, refl, sym, ap, ◌∙◌}
 use mathlib.Core.Bool.{Bool, true, false, cond}
-use mathlib.Core.List.{List}
+use mathlib.Core.List.{List, [], ◌∷◌}
 use Prim.Native.Nat.{ℕ, ◌+◌, ◌≤◌, ◌<◌}
 use native.Mathlib.Omega.{arith}
 use native.Mathlib.Decide.{dec_lt}
-use lib.ListN.{take, length-take, get_or-eq_default}
+use lib.ListN.{get_or, take, length-take, get_or-eq_default}
 use lib.Seq.{get_or-take}
 use lib.Dec.{eqb, ltb}
 use borrow.Author.Tests.{ne_eqb, lt-ltb, le-ltb}
@@ -20,7 +20,8 @@ use Rattle.sheet.specs.Shape.{sheet_shape}
 use Rattle.sheet.specs.Laying.{ids_held}
 use Rattle.given.specs.Given.{Group}
 use Rattle.given.specs.Pushing.{style_push_verdict, pushed_style, group_verdict, pushed_group}
-use Rattle.builder.specs.Answers.{Pushes}
+use Rattle.builder.specs.Answers.{Push, Pushes}
+use Rattle.builder.proofs.Pushes.{style_refused, group_refused}
 use Rattle.made.specs.Made.{Halves}
 use Rattle.made.proofs.Pushed.{style_shaped, group_shaped}
 use Rattle.gather.specs.declared.Filled.{Filled}
@@ -28,7 +29,7 @@ use Rattle.gather.specs.declared.OpenKind.{OpenKind}
 use Rattle.gather.specs.declared.OpenKind.TheVariants.{Nothing, Direct, Rules}
 use Rattle.gather.specs.Opened.{Open, nothing, direct, group, none, rule_count, entries_given, ids_given, close_verdict, closed}
 use Rattle.gather.specs.Making.{is_direct, direct_faults, group_faults, closing_verdict}
-use Rattle.gather.specs.Memory.{filled_of, open_in, open_of, kind_in, origin_in, newly, Roomy, Sound, Closes}
+use Rattle.gather.specs.Memory.{filled_of, open_in, open_of, kind_in, origin_in, newly, Roomy, Sound, offset_of, Closes}
 use Rattle.gather.proofs.Opening.{open_nothing, open_direct, open_group, kinds, rules_counted, entries_counted}
 
 -- ---- what is pushed
@@ -105,16 +106,32 @@ pub newly_rules : (origin : ℕ) (m : Group) → open_of (newly (Rules origin)) 
 unfolding open_of
 newly_rules origin m = refl
 
+-- ---- what a push refuses has no offset
+
+told_once : (b : Bool) (v : ℕ) → get_or (cond b (0 ∷ []) (v ∷ [])) 1 0 ≡ 0
+told_once true v = refl
+told_once false v = refl
+
+push_offset : {v : ℕ} {before pushed after : List ℕ} {e : Refusal} → Push v before pushed (Err e) after → offset_of (Err e) ≡ 0
+push_offset {v} p = ap (λ (l : List ℕ). get_or l 1 0) p.answer ∙ told_once (eqb v 0) v
+
+close_offset : (w : List ℕ) (o : Open) (e : Refusal) → number_of e ≡ close_verdict w o → offset_of (Err e) ≡ 0
+unfolding close_verdict
+close_offset w nothing e q = absurd (refusal_number e q)
+close_offset w (direct origin g) e q = push_offset (style_refused w origin g.properties g.kinds g.numbers (entries_given g) e q)
+close_offset w (group origin g) e q = push_offset (group_refused w origin g (rule_count g) e q)
+
 -- ---- the three ways out
 
 module _ (w : List ℕ) (f : Filled) (m : Group) (s : Sound f m) (z : sheet_shape w ≡ true) (after : Open) (fault : ℕ) where
   -- its own fault
-  pub closes_faulty : (e : Refusal) → number_of e ≡ fault → Closes fault w f m after (Err e) w
+  pub closes_faulty : (e : Refusal) → number_of e ≡ fault → offset_of (Err e) ≡ 0 → Closes fault w f m after (Err e) w
   unfolding closing_verdict
-  closes_faulty e q =
+  closes_faulty e q x =
       let n : eqb (number_of e) 0 ≡ false = ne_eqb (number_of e) 0 (refusal_number e) in
       record {
         answer = rw (← q, n);
+        offset = x;
         sheet = rw (← q, n, n);
         opens = λ y. absurd (refusal_number e y);
         keeps = λ _. refl;
@@ -132,6 +149,7 @@ module _ (w : List ℕ) (f : Filled) (m : Group) (s : Sound f m) (z : sheet_shap
         let x_is : x ≡ w = p.memory ∙ rw (← p.answer, n) in
         rw t (record {
           answer = rw (← o, ← p.answer);
+          offset = close_offset w (open_of f m) e p.answer;
           sheet = rw (← o, ← p.answer, n) x_is;
           opens = λ y. absurd (refusal_number e y);
           keeps = λ _. refl;
@@ -148,6 +166,7 @@ module _ (w : List ℕ) (f : Filled) (m : Group) (s : Sound f m) (z : sheet_shap
         let x_is : x ≡ closed w (open_of f m) = p.memory ∙ rw c in
         record {
           answer = rw (← o, c);
+          offset = refl;
           sheet = rw (← o, c) x_is;
           opens = λ _. rw q a;
           keeps = λ y. absurd (y refl);

@@ -1,7 +1,7 @@
 -- Laws of what is open, and of a record that is refused or accepted. Assumes nothing.
 use mathlib.Core.Path.{◌≡◌, refl, ◌∙◌}
 use mathlib.Core.Bool.{false}
-use Prim.Native.Nat.{ℕ, ◌*◌, ◌≤◌, ◌<◌}
+use Prim.Native.Nat.{ℕ, ◌*◌, ◌≤◌}
 use native.Mathlib.Omega.{arith}
 use lib.ListN.{length, take}
 use lib.Seq.{length-take-le}
@@ -15,7 +15,7 @@ use Rattle.gather.specs.declared.OpenKind.{OpenKind}
 use Rattle.gather.specs.declared.OpenKind.TheVariants.{Nothing, Direct, Rules}
 use Rattle.gather.specs.Opened.{Open, nothing, direct, group, rule_count, entries_given}
 use Rattle.gather.specs.Making.{is_group}
-use Rattle.gather.specs.Memory.{filled_of, open_in, open_of, kind_in, origin_in, Sound, Adds}
+use Rattle.gather.specs.Memory.{filled_of, open_in, open_of, kind_in, origin_in, Sound, offset_of, Adds}
 use Rattle.gather.proofs.Filling.{steps_few}
 
 -- ---- what is open
@@ -68,10 +68,11 @@ module _ (f : Filled) (m : Group) where
 -- ---- refused, and accepted
 
 pub adds_refused : {f : Filled} {m : Group} {after : Open} {fault v : ℕ} {r : Result Filled Refusal} {e : Refusal}
-    → Sound f m → v ≡ fault → r ≡ Err e → number_of e ≡ v → Adds fault f m after r m
-adds_refused {f} {m} {after} {fault} {v} {r} {e} s q t n = rw t (record {
+    → Sound f m → v ≡ fault → r ≡ Err e → number_of e ≡ v → offset_of (Err e) ≡ 0 → Adds fault f m after r m
+adds_refused {f} {m} {after} {fault} {v} {r} {e} s q t n z = rw t (record {
   answer = n ∙ q;
-  opens = λ z. absurd (refusal_number e z);
+  offset = z;
+  opens = λ y. absurd (refusal_number e y);
   keeps = λ _. (refl, refl);
   sound = s;
 })
@@ -80,6 +81,7 @@ pub adds_accepted : {f₀ f : Filled} {m₀ m : Group} {after : Open} {fault : �
     → Sound f m → 0 ≡ fault → open_of f m ≡ after → r ≡ Ok f → Adds fault f₀ m₀ after r m
 adds_accepted {f₀} {f} {m₀} {m} {after} {fault} {r} s q o t = rw t (record {
   answer = q;
+  offset = refl;
   opens = λ _. o;
   keeps = λ z. absurd (z refl);
   sound = s;

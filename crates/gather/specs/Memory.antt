@@ -1,6 +1,6 @@
 -- What is open, in lent lists that are filled from the front: what the reader of records holds. Assumes nothing.
-use Rattle.std.specs.Prelude.{◌≡◌, cond, true, List, ℕ, ◌+◌, ◌-◌, ◌*◌, ◌≤◌, ◌<◌, length, take, eqb, Result, Ok, Err}
-use Rattle.lent.specs.Refusals.{verdict_of}
+use Rattle.std.specs.Prelude.{◌≡◌, cond, true, List, ℕ, ◌+◌, ◌-◌, ◌*◌, ◌≤◌, ◌<◌, length, get_or, take, eqb, Result, Ok, Err}
+use Rattle.lent.specs.Refusals.{added, verdict_of}
 use Rattle.lent.specs.declared.Refusal.{Refusal}
 use Rattle.selector.specs.Checks.{row_fits}
 use Rattle.sheet.specs.Shape.{sheet_shape}
@@ -77,9 +77,16 @@ abbrev pub filled_by : Result Filled Refusal → Filled → Filled
 filled_by (Ok after) before = after
 filled_by (Err refusal) before = before
 
+-- the byte offset that the refusal adds, 0 where none is added: who knows the record's place adds it
+abbrev pub offset_of : Result Filled Refusal → ℕ
+offset_of (Ok after) = 0
+offset_of (Err refusal) = get_or (added refusal) 0 0
+
 -- of a kind that only adds to what is open
 pub record Adds (fault : ℕ) (f : Filled) (m : Group) (after : Open) (r : Result Filled Refusal) (m' : Group) : Type 0 where
   pub answer : verdict_of r ≡ fault
+  -- a refusal 10 has offset 0: with its number that is the whole refusal
+  pub offset : offset_of r ≡ 0
   pub opens : verdict_of r ≡ 0 → open_of (filled_by r f) m' ≡ after
   pub keeps : (verdict_of r ≡ 0 → ⊥) → (filled_by r f ≡ f) × (m' ≡ m)
   pub sound : Sound (filled_by r f) m'
@@ -87,6 +94,7 @@ pub record Adds (fault : ℕ) (f : Filled) (m : Group) (after : Open) (r : Resul
 -- of a kind that closes what is open, too: with the sheet's words; the lent lists are only read
 pub record Closes (fault : ℕ) (w : List ℕ) (f : Filled) (m : Group) (after : Open) (r : Result Filled Refusal) (w' : List ℕ) : Type 0 where
   pub answer : verdict_of r ≡ closing_verdict fault w (open_of f m)
+  pub offset : offset_of r ≡ 0
   pub sheet : w' ≡ cond (eqb (closing_verdict fault w (open_of f m)) 0) (closed w (open_of f m)) w
   pub opens : verdict_of r ≡ 0 → open_of (filled_by r f) m ≡ after
   pub keeps : (verdict_of r ≡ 0 → ⊥) → filled_by r f ≡ f
@@ -96,6 +104,7 @@ pub record Closes (fault : ℕ) (w : List ℕ) (f : Filled) (m : Group) (after :
 -- of any kind
 pub record Takes (w : List ℕ) (f : Filled) (m : Group) (r : Record) (taken : Result Filled Refusal) (w' : List ℕ) (m' : Group) : Type 0 where
   pub answer : verdict_of taken ≡ making_verdict w (open_of f m) r
+  pub offset : offset_of taken ≡ 0
   pub sheet : w' ≡ cond (eqb (making_verdict w (open_of f m) r) 0) (sheet_after w (open_of f m) r) w
   pub opens : verdict_of taken ≡ 0 → open_of (filled_by taken f) m' ≡ open_after (open_of f m) r
   pub keeps : (verdict_of taken ≡ 0 → ⊥) → (filled_by taken f ≡ f) × (m' ≡ m)

@@ -1,6 +1,6 @@
 -- Records fed in pieces, over lent memory: how far they lead, and what they print. Assumes nothing.
-use Rattle.std.specs.Prelude.{◌≡◌, Bool, cond, true, false, List, [], ◌++◌, ℕ, ◌+◌, ◌≤◌, ◌<◌, length, take, drop, replicate, eqb}
-use Rattle.lent.specs.Refusals.{number_of}
+use Rattle.std.specs.Prelude.{◌≡◌, Bool, cond, true, false, List, [], ◌∷◌, ◌++◌, ℕ, ◌+◌, ◌≤◌, ◌<◌, length, take, drop, replicate, eqb}
+use Rattle.lent.specs.Refusals.{number_of, added}
 use Rattle.sheet.specs.Layout.{SHEET-WORDS}
 use Rattle.sheet.specs.Shape.{sheet_shape}
 use Rattle.given.specs.Given.{Group}
@@ -54,6 +54,13 @@ verdict_in Begun = 0
 verdict_in (Stopped refusal) = number_of refusal
 verdict_in Done = 0
 
+-- the byte offset that the refusal adds, if it adds one
+abbrev pub added_in : Stage → List ℕ
+added_in Unbegun = []
+added_in Begun = []
+added_in (Stopped refusal) = added refusal
+added_in Done = []
+
 -- the phase, by the state: 0 none yet, else in the making
 unfoldable pub phase_of : Making → List ℕ → Group → Phase
 phase_of m w g = cond (eqb (state_in m.stage) 0) first (making w (open_of m.filled g) m.ranking m.stamp)
@@ -93,6 +100,8 @@ pub record MadeSoFar (input : List ℕ) (m : Making) (w : List ℕ) (g : Group) 
   pub reaches : (room : ℕ) → m.offset + m'.at < 18446744073709551616
       → reached room (phase_of m w g) m.offset (take m'.at input) ≡ leads [] (phase_left room (phase_of m w g) m' w' g')
   pub refused : state_in m'.stage ≡ 2 → (room : ℕ) → Refused room (phase_left room (phase_of m w g) m' w' g') m'.offset (drop m'.at input) (verdict_in m'.stage)
+  -- "10 adds a byte offset": the refused record's own
+  pub adds : verdict_in m'.stage ≡ 10 → added_in m'.stage ≡ m'.offset ∷ []
   pub quiet : (state_in m'.stage ≡ 2 → ⊥) → verdict_in m'.stage ≡ verdict_in m.stage
   pub still : m'.at ≡ 0 → Still m w g m' w' g'
   pub first : state_in m'.stage ≡ 0 → m'.at ≡ 0

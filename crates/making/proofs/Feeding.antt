@@ -1,7 +1,7 @@
 -- The records of a piece, one after the other. Assumes nothing.
 use mathlib.Core.Path.{◌≡◌, refl, sym, ap, ap₂, ◌∙◌, subst}
 use mathlib.Core.Bool.{Bool, true, false, not, true≢false}
-use mathlib.Core.List.{List, []}
+use mathlib.Core.List.{List, [], ◌∷◌}
 use Prim.Native.Nat.{ℕ, ◌+◌, ◌-◌, ◌*◌, ◌≤◌, ◌<◌}
 use native.Mathlib.Omega.{arith}
 use native.Mathlib.Decide.{ℕ_discrete}
@@ -23,12 +23,12 @@ use Rattle.house.specs.declared.Stage.TheVariants.{Stopped}
 use Rattle.house.specs.declared.Found.{Found}
 use Rattle.house.specs.declared.Found.TheVariants.{Whole, Short, Unknown}
 use Rattle.house.specs.House.{Phase, leads, outcome, printing, reached_in, reached}
-use Rattle.house.specs.Memory.{Refused, state_in, verdict_in, phase_of, Before, phase_left, MadeSoFar, FedSheet}
+use Rattle.house.specs.Memory.{Refused, state_in, verdict_in, added_in, phase_of, Before, phase_left, MadeSoFar, FedSheet}
 use Rattle.house.specs.Memory.Refused.{whole, unknown}
 use Rattle.making.specs.Taking.{staged, refusing, moved, next_phase, Took, Past, TookFront, Ahead, ItemAt, Opens, GoesOn}
 use Rattle.house.proofs.Front.{front_of, front_whole, front_unknown, front_cut, none_cut, rested, item_known, item_room}
 use Rattle.house.proofs.Walk.{reached_next}
-use Rattle.making.proofs.Taking.{moved_before, did_refused, did_on, front_taken}
+use Rattle.making.proofs.Taking.{quiet_in, moved_before, did_refused, did_on, front_taken}
 
 -- ---- the piece
 
@@ -39,6 +39,7 @@ feed_start input start w g b = record {
   place = λ _. omega arith;
   reaches = λ room h. rw (ne_eqb (state_in start.stage) 3 (λ e. omega (arith, b.awaits))) (unfold reached_in in refl);
   refused = λ e. absurd (omega (arith, b.awaits));
+  adds = λ e. absurd (omega (arith, e, quiet_in start.stage (λ s. omega (arith, s, b.awaits))));
   quiet = λ _. refl;
   still = λ _. record { state = λ _. refl; ranking = refl; stamp = refl; filled = refl; sheet = refl; lists = refl };
   first = λ _. refl;
@@ -61,12 +62,14 @@ module _ {input : List ℕ} {start : Making} {w₀ : List ℕ} {g₀ : Group} {m
     | no n ↦ unfold phase_left phase_of in rw (e, ne_eqb m.at 0 n, ne_eqb (state_in m.stage) 3 (λ e. omega arith), ne_eqb (state_in m.stage) 0 (λ e. n (f.first e)))
   ]
 
-  made_refused : (s : Stage) → state_in s ≡ 2 → ((room : ℕ) → Refused room (phase_of m w g) m.offset (drop m.at input) (verdict_in s)) → MadeSoFar input start w₀ g₀ (staged m s) w g
-  made_refused s e r = record {
+  made_refused : (s : Stage) → state_in s ≡ 2 → (verdict_in s ≡ 10 → added_in s ≡ m.offset ∷ [])
+      → ((room : ℕ) → Refused room (phase_of m w g) m.offset (drop m.at input) (verdict_in s)) → MadeSoFar input start w₀ g₀ (staged m s) w g
+  made_refused s e a r = record {
     within = f.within;
     place = f.place;
     reaches = λ room h. f.reaches room h ∙ rw (phase_refused room s e);
     refused = λ _ room. rw (← phase_refused room s e, phase_here room) (r room);
+    adds = a;
     quiet = λ n. absurd (n e);
     still = λ z. let t = f.still z in record { state = λ n. absurd (n e); ranking = t.ranking; stamp = t.stamp; filled = t.filled; sheet = t.sheet; lists = t.lists };
     first = λ z. absurd (omega (arith, e, z));
@@ -89,7 +92,7 @@ module _ {input : List ℕ} {start : Making} {w₀ : List ℕ} {g₀ : Group} {m
         let (a, b, c) = t.done.keeps e in
         let o : m'.offset ≡ m.offset = ap (λ (x : Making). x.offset) a in
         subst (λ (x : Making). MadeSoFar input start w₀ g₀ x w' g') (sym a)
-        (rw (b, c) (made_refused m'.stage e (λ room. whole whole_here (t.done.does room ∙ did_refused room m' w' g' e ∙ rw o))))
+        (rw (b, c) (made_refused m'.stage e t.done.adds (λ room. whole whole_here (t.done.does room ∙ did_refused room m' w' g' e ∙ rw o))))
 
     module _ (n : state_in m'.stage ≡ 2 → ⊥) where
       one_place : start.offset + m'.at < 18446744073709551616 → m'.offset ≡ start.offset + m'.at
@@ -119,6 +122,7 @@ module _ {input : List ℕ} {start : Making} {w₀ : List ℕ} {g₀ : Group} {m
         place = one_place;
         reaches = one_reaches;
         refused = λ e. absurd (n e);
+        adds = λ e. absurd (omega (arith, e, quiet_in m'.stage n));
         quiet = λ _. t.done.quiet n ∙ f.quiet (λ e. omega arith);
         still = λ z. absurd (omega (arith, t.goes n, size_some (kind_of rest)));
         first = λ e. absurd (t.done.some e);
@@ -232,6 +236,6 @@ module _ {input : List ℕ} {start : Making} {w₀ : List ℕ} {g₀ : Group} {m
         by Unknown u =
             let (s, l, e) = f.ahead.unknown u in
             subst (λ (x : Making). FedSheet input start w₀ g₀ x w g) (sym (q.0 u)) (record {
-              made = made_refused made_here s (Stopped (BadRecord m.offset)) refl (λ room. unknown (rw length-drop (omega arith)) e refl);
+              made = made_refused made_here s (Stopped (BadRecord m.offset)) refl (λ _. refl) (λ room. unknown (rw length-drop (omega arith)) e refl);
               cut = λ h. absurd (omega arith);
             })

@@ -1,16 +1,16 @@
 -- The ways through the functions that take a record of those up to kind 8. Assumes nothing.
 use mathlib.Core.Path.{◌≡◌, refl, sym, ap, ◌∙◌, subst}
 use mathlib.Core.Bool.{cond, true, false}
-use mathlib.Core.List.{List, []}
+use mathlib.Core.List.{List, [], ◌∷◌}
 use Prim.Native.Nat.{ℕ, ◌+◌, ◌≤◌, ◌<◌}
 use native.Mathlib.Omega.{arith}
 use native.Mathlib.Decide.{ℕ_discrete}
-use lib.ListN.{replicate, length-replicate}
+use lib.ListN.{get_or, drop, replicate, length-replicate}
 use lib.Seq.{sets}
 use lib.Dec.{eqb}
 use borrow.Author.Tests.{le-ltb, lt-ltb, eq-eqb, ne_eqb}
 use Rattle.std.specs.Prelude.{Result, Ok, Err}
-use Rattle.lent.specs.Refusals.{number_of, first_of}
+use Rattle.lent.specs.Refusals.{number_of, added, told, first_of}
 use Rattle.lent.specs.declared.Refusal.{Refusal}
 use Rattle.lent.specs.declared.Refusal.TheVariants.{NotAscending, OverSize, CombinatorCount, NotAState, NoRoom, CodeOutOfRange, NoSourceIndex, BufferTooShort, NoSuchRule, BadRecord, BrokenShape}
 use Rattle.lent.proofs.Refusals.{refusal_number}
@@ -32,24 +32,33 @@ use Rattle.house.specs.declared.Stage.{Stage}
 use Rattle.house.specs.declared.Stage.TheVariants.{Unbegun, Begun, Stopped, Done}
 use Rattle.house.specs.House.{first, making, stops, leads, empty_sheet, first_verdict, making_outcome, outcome}
 use Rattle.house.specs.Memory.{state_in, verdict_in, phase_of, Before, Stands}
-use Rattle.making.specs.Taking.{placed, refusing, moved, next_phase, did, Took, Past, TookFront, GoesOn}
+use Rattle.making.specs.Taking.{staged, placed, refusing, moved, next_phase, did, Took, Past, TookFront, GoesOn}
 use Rattle.house.proofs.Never.{build_never_refused}
 use Rattle.house.proofs.Front.{item_size}
 
 -- ---- the refusal of a record at its offset
 
+-- its number, and of 10 the offset
+placed_told : (r : Refusal) (offset : ℕ) → told (placed r offset) ≡ number_of r ∷ cond (eqb (number_of r) 10) (offset ∷ []) []
+placed_told NotAscending offset = refl
+placed_told OverSize offset = refl
+placed_told CombinatorCount offset = refl
+placed_told NotAState offset = refl
+placed_told NoRoom offset = refl
+placed_told CodeOutOfRange offset = refl
+placed_told NoSourceIndex offset = refl
+placed_told BufferTooShort offset = refl
+placed_told NoSuchRule offset = refl
+placed_told (BadRecord at) offset = refl
+placed_told BrokenShape offset = refl
+
 pub placed_number : (r : Refusal) (offset : ℕ) → number_of (placed r offset) ≡ number_of r
-placed_number NotAscending offset = refl
-placed_number OverSize offset = refl
-placed_number CombinatorCount offset = refl
-placed_number NotAState offset = refl
-placed_number NoRoom offset = refl
-placed_number CodeOutOfRange offset = refl
-placed_number NoSourceIndex offset = refl
-placed_number BufferTooShort offset = refl
-placed_number NoSuchRule offset = refl
-placed_number (BadRecord at) offset = refl
-placed_number BrokenShape offset = refl
+placed_number r offset = ap (λ (l : List ℕ). get_or l 0 0) (placed_told r offset)
+
+pub placed_adds : (r : Refusal) (offset : ℕ) → number_of (placed r offset) ≡ 10 → added (placed r offset) ≡ offset ∷ []
+placed_adds r offset e =
+    let ten : number_of r ≡ 10 = sym (placed_number r offset) ∙ e in
+    ap (drop 1) (placed_told r offset) ∙ rw ten
 
 pub placed_same : (r : Refusal) (offset : ℕ) → ((at : ℕ) → r ≡ BadRecord at → ⊥) → r ≡ placed r offset
 placed_same NotAscending offset n = refl
@@ -76,13 +85,16 @@ module _ (m : Making) (w : List ℕ) (g : Group) where
   phase_making e = rw e
 
   -- a refused record
-  took_refused : (r : Record) (e : Refusal) → Roomy g → ((room : ℕ) → outcome room (phase_of m w g) m.offset r ≡ stops (refused_line (number_of e) m.offset)) → Took m w g r (refusing m e) w g
+  took_refused : (r : Record) (e : Refusal) → (number_of e ≡ 10 → added e ≡ m.offset ∷ []) → Roomy g
+      → ((room : ℕ) → outcome room (phase_of m w g) m.offset r ≡ stops (refused_line (number_of e) m.offset))
+      → Took m w g r (staged m (Stopped e)) w g
   unfolding did
-  took_refused r e room o = record {
+  took_refused r e a room o = record {
     done = record {
-      does = λ x. rw (placed_number e m.offset) (o x);
+      does = o;
       stands = record { before = λ h. absurd (omega arith); ready = λ h. absurd (omega arith); room = room };
       keeps = λ _. (refl, refl, refl);
+      adds = a;
       quiet = λ n. absurd (n refl);
       some = λ z. absurd (omega arith);
     };
@@ -95,7 +107,7 @@ abbrev led : Making → Stage → ℕ → ℕ → Filled → Making
 led m stage ranking stamp f = record { stage = stage; ranking = ranking; stamp = stamp; offset = m.offset; at = m.at; filled = f }
 
 -- where none was refused no number is told
-quiet_in : (s : Stage) → (state_in s ≡ 2 → ⊥) → verdict_in s ≡ 0
+pub quiet_in : (s : Stage) → (state_in s ≡ 2 → ⊥) → verdict_in s ≡ 0
 quiet_in Unbegun n = refl
 quiet_in Begun n = refl
 quiet_in (Stopped r) n = absurd (n refl)
@@ -109,7 +121,14 @@ took_on : {m : Making} {w : List ℕ} {g : Group} {r : Record} {stage : Stage} {
     → Stands (led m stage ranking stamp f) w' g'
     → Took m w g r (led m stage ranking stamp f) w' g'
 took_on {m} {stage = stage} b n z e s = record {
-  done = record { does = e; stands = s; keeps = λ x. absurd (n x); quiet = λ _. quiet_in stage n ∙ sym (quiet_in m.stage b); some = z };
+  done = record {
+    does = e;
+    stands = s;
+    keeps = λ x. absurd (n x);
+    adds = λ x. absurd (omega (arith, x, quiet_in stage n));
+    quiet = λ _. quiet_in stage n ∙ sym (quiet_in m.stage b);
+    some = z;
+  };
   at = refl;
   offset = refl;
 }
@@ -152,7 +171,9 @@ open_nothing f g e = rw e
 
 module _ (m : Making) (w : List ℕ) (g : Group) (b : Before m w g) (z : state_in m.stage ≡ 0) (r : Record) where
   begin_refused : (v : Refusal) → first_verdict r ≡ number_of v → eqb (number_of v) 0 ≡ false → Took m w g r (refusing m v) w g
-  begin_refused v e n = took_refused m w g r v b.sound.room (λ room. rw (phase_first m w g z) (unfold outcome in rw (e, n)))
+  begin_refused v e n =
+      took_refused m w g r (placed v m.offset) (placed_adds v m.offset) b.sound.room (λ room.
+      rw (phase_first m w g z, placed_number v m.offset) (unfold outcome in rw (e, n)))
 
   pub begin_kind : (m' : Making) (at : ℕ) → m' ≡ refusing m (BadRecord at) → (r.kind ≡ 1 → ⊥) → Took m w g r m' w g
   begin_kind m' at q n = rw q (begin_refused (BadRecord at) (not_first r n) refl)
@@ -186,11 +207,12 @@ abbrev gone : Making → Stage → Filled → Making
 gone m stage f = led m stage m.ranking m.stamp f
 
 module _ (m : Making) (w : List ℕ) (g : Group) (b : Before m w g) (z : state_in m.stage ≡ 1) (r : Record) (w' : List ℕ) (g' : Group) where
-  go_refused : (e : Refusal) → Takes w m.filled g r (Err e) w' g' → (m' : Making) → m' ≡ refusing m e → Took m w g r m' w' g'
-  go_refused e k m' q =
+  go_refused : (e x : Refusal) → Takes w m.filled g r (Err e) w' g' → (m' : Making) → m' ≡ staged m (Stopped x)
+      → number_of x ≡ number_of e → (number_of x ≡ 10 → added x ≡ m.offset ∷ []) → Took m w g r m' w' g'
+  go_refused e x k m' q n a =
       let same : w' ≡ w = k.sheet ∙ rw (← k.answer, ne_eqb (number_of e) 0 (refusal_number e)) in
-      rw (q, same, (k.keeps (refusal_number e)).1) (took_refused m w g r e b.sound.room (λ room.
-      rw (phase_making m w g z) (unfold outcome making_outcome in rw (← k.answer, ne_eqb (number_of e) 0 (refusal_number e)))))
+      rw (q, same, (k.keeps (refusal_number e)).1) (took_refused m w g r x a b.sound.room (λ room.
+      rw (phase_making m w g z, n) (unfold outcome making_outcome in rw (← k.answer, ne_eqb (number_of e) 0 (refusal_number e)))))
 
   module _ (f : Filled) (k : Takes w m.filled g r (Ok f) w' g') where
     zero_verdict : making_verdict w (open_of m.filled g) r ≡ 0
@@ -284,6 +306,7 @@ module _ (m : Making) (w : List ℕ) (g : Group) (bytes : List ℕ) (m' : Making
           does = λ room. rw (← e) (t.done.does room ∙ did_moved room m' w' g' n o (m'.at + size));
           stands = moved_stands o (m'.at + size) t.done.stands;
           keeps = λ s. absurd (n s);
+          adds = t.done.adds;
           quiet = t.done.quiet;
           some = t.done.some;
         };
@@ -299,10 +322,11 @@ module _ (m : Making) (w : List ℕ) (g : Group) (bytes : List ℕ) (m' : Making
 
 -- one that isn't the first, in whatever memory it was taken
 module _ (m : Making) (r : Record) (t : Result Filled Refusal) where
-  pub on_refused : (e : Refusal) → t ≡ Err e → (m' : Making) → m' ≡ refusing m e → GoesOn m r t m'
-  on_refused e i m' q = rw i (record {
+  pub on_refused : (e : Refusal) → t ≡ Err e → (x : Refusal) (m' : Making) → m' ≡ staged m (Stopped x)
+      → number_of x ≡ number_of e → (number_of x ≡ 10 → added x ≡ m.offset ∷ []) → GoesOn m r t m'
+  on_refused e i x m' q n a = rw i (record {
     goes = λ w g w' g' bytes b z l k.
-        front_refused m w g bytes m' w' g' r (size_of r.kind) m' l (go_refused m w g b z r w' g' e k m' q) refl (ap (λ (x : Making). state_in x.stage) q);
+        front_refused m w g bytes m' w' g' r (size_of r.kind) m' l (go_refused m w g b z r w' g' e x k m' q n a) refl (ap (λ (x : Making). state_in x.stage) q);
   })
 
   pub on_passed : (f : Filled) → t ≡ Ok f → (s : Stage) → s ≡ stage_after r.kind → (size : ℕ) → size ≡ size_of r.kind → (m'' : Making) → Past (gone m s f) size m'' → GoesOn m r t m''

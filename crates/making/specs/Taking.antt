@@ -1,5 +1,5 @@
 -- One record of those up to kind 8, over lent memory. For contracts within and cores alone. Assumes nothing.
-use Rattle.std.specs.Prelude.{◌≡◌, cond, true, false, List, [], ℕ, ◌+◌, ◌≤◌, ◌<◌, length, drop, eqb, Result}
+use Rattle.std.specs.Prelude.{◌≡◌, cond, true, false, List, [], ◌∷◌, ℕ, ◌+◌, ◌≤◌, ◌<◌, length, drop, eqb, Result}
 use Rattle.lent.specs.declared.Refusal.{Refusal}
 use Rattle.lent.specs.declared.Refusal.TheVariants.{NotAscending, OverSize, CombinatorCount, NotAState, NoRoom, CodeOutOfRange, NoSourceIndex, BufferTooShort, NoSuchRule, BadRecord, BrokenShape}
 use Rattle.given.specs.Given.{Group}
@@ -14,7 +14,7 @@ use Rattle.house.specs.declared.Stage.TheVariants.{Stopped}
 use Rattle.house.specs.declared.Found.{Found}
 use Rattle.house.specs.declared.Found.TheVariants.{Whole, Short, Unknown}
 use Rattle.house.specs.House.{Phase, walks, Outcome, stops, leads, built_of, outcome}
-use Rattle.house.specs.Memory.{Cut, state_in, verdict_in, phase_of, Before, Stands, MadeSoFar}
+use Rattle.house.specs.Memory.{Cut, state_in, verdict_in, added_in, phase_of, Before, Stands, MadeSoFar}
 
 -- at another stage
 abbrev pub staged : Making → Stage → Making
@@ -55,6 +55,8 @@ pub record Does (m : Making) (w : List ℕ) (g : Group) (r : Record) (m' : Makin
   pub does : (room : ℕ) → outcome room (phase_of m w g) m.offset r ≡ did room m' w' g'
   pub stands : Stands m' w' g'
   pub keeps : state_in m'.stage ≡ 2 → (m' ≡ staged m m'.stage) × (w' ≡ w) × (g' ≡ g)
+  -- "10 adds a byte offset": this record's own, as `refusing` says
+  pub adds : verdict_in m'.stage ≡ 10 → added_in m'.stage ≡ m.offset ∷ []
   pub quiet : (state_in m'.stage ≡ 2 → ⊥) → verdict_in m'.stage ≡ verdict_in m.stage
   pub some : state_in m'.stage ≡ 0 → ⊥
 

@@ -3,20 +3,18 @@ use mathlib.Core.Path.{◌≡◌, refl, ◌∙◌}
 use mathlib.Core.Bool.{Bool, true, false, cond}
 use mathlib.Core.List.{List}
 use Prim.Native.Nat.{ℕ}
-use native.Mathlib.Omega.{arith}
 use lib.Dec.{eqb}
 use borrow.Author.Tests.{ne_eqb}
 use Rattle.std.specs.Prelude.{Result, Err}
-use Rattle.lent.specs.Refusals.{first_of}
+use Rattle.lent.specs.Refusals.{number_of, first_of}
 use Rattle.lent.specs.declared.Refusal.{Refusal}
-use Rattle.lent.specs.declared.Refusal.TheVariants.{BadRecord}
 use Rattle.sheet.specs.Shape.{sheet_shape}
 use Rattle.given.specs.Given.{Group}
 use Rattle.records.specs.declared.Record.{Record}
 use Rattle.gather.specs.declared.Filled.{Filled}
 use Rattle.gather.specs.Opened.{Open, nothing, direct, group, none, with_rule, with_step, with_requirement, with_entry}
 use Rattle.gather.specs.Making.{direct_faults, group_faults, rule_faults, step_faults, requirement_faults, entry_faults, closes, closing_fault, in_group, added_fault, added_to, making_verdict, sheet_after, open_after}
-use Rattle.gather.specs.Memory.{open_of, Sound, Adds, Closes, Takes}
+use Rattle.gather.specs.Memory.{open_of, Sound, offset_of, Adds, Closes, Takes}
 use Rattle.gather.proofs.Opening.{adds_refused}
 
 -- ---- kinds 4 to 7
@@ -44,12 +42,12 @@ module _ (w : List ℕ) (f : Filled) (m : Group) (item : Record) (r : Result Fil
   adds_entry k a = rw k a
 
 -- any other is misplaced
-pub adds_misplaced : (w : List ℕ) (f : Filled) (m : Group) (item : Record) (r : Result Filled Refusal) → Sound f m
+pub adds_misplaced : (w : List ℕ) (f : Filled) (m : Group) (item : Record) (r : Result Filled Refusal) {x : Refusal} → Sound f m
     → (item.kind ≡ 4 → ⊥) → (item.kind ≡ 5 → ⊥) → (item.kind ≡ 6 → ⊥) → (item.kind ≡ 7 → ⊥)
-    → r ≡ Err (BadRecord 0) → Adds (added_fault w (open_of f m) item) f m (added_to (open_of f m) item) r m
+    → r ≡ Err x → number_of x ≡ 10 → offset_of (Err x) ≡ 0 → Adds (added_fault w (open_of f m) item) f m (added_to (open_of f m) item) r m
 unfolding added_fault added_to
-adds_misplaced w f m item r s a b c d e =
-    rw (ne_eqb item.kind 4 a, ne_eqb item.kind 5 b, ne_eqb item.kind 6 c, ne_eqb item.kind 7 d) (adds_refused s refl e refl)
+adds_misplaced w f m item r s a b c d e n z =
+    rw (ne_eqb item.kind 4 a, ne_eqb item.kind 5 b, ne_eqb item.kind 6 c, ne_eqb item.kind 7 d) (adds_refused s refl e n z)
 
 -- ---- any kind
 
@@ -60,6 +58,7 @@ module _ (w : List ℕ) (f : Filled) (m : Group) (item : Record) (r : Result Fil
   unfolding making_verdict sheet_after
   takes_closing k e o c = record {
     answer = c.answer ∙ rw (k, e);
+    offset = c.offset;
     sheet = c.sheet ∙ rw (k, e);
     opens = λ z. c.opens z ∙ o;
     keeps = λ n. (c.keeps n, refl);
@@ -89,6 +88,7 @@ module _ (w : List ℕ) (f : Filled) (m : Group) (item : Record) (r : Result Fil
   unfolding making_verdict sheet_after open_after
   takes_added a b c z t = record {
     answer = rw (ne_eqb item.kind 2 a, ne_eqb item.kind 3 b, ne_eqb item.kind 8 c) t.answer;
+    offset = t.offset;
     sheet = rw (ne_eqb item.kind 2 a, ne_eqb item.kind 3 b, ne_eqb item.kind 8 c) (cond_same (eqb (added_fault w (open_of f m) item) 0) w);
     opens = rw (ne_eqb item.kind 2 a, ne_eqb item.kind 3 b, ne_eqb item.kind 8 c) t.opens;
     keeps = t.keeps;

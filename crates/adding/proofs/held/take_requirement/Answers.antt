@@ -11,7 +11,7 @@ returns-then-not-in_step c =
 
 pub returns-then-which-gt3 : goal.returns-then-which-gt3
 returns-then-which-gt3 c =
-    which_refused _ _ c.requires.sound c.args.sheet.now c.args.which c.args.id _ _ c.in_step.ensures (not-false _ (ap not c.if-not-in_step.false)) c.if-which-gt3.true refl
+    which_refused _ _ c.requires.sound c.args.sheet.now c.args.which c.args.id _ _ c.in_step.ensures (not-false _ (ap not c.if-not-in_step.false)) c.if-which-gt3.true refl refl refl
 
 pub put_requirement-requires : goal.put_requirement-requires
 put_requirement-requires c =

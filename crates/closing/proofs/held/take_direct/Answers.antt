@@ -1,4 +1,4 @@
-use mathlib.Core.Path.{◌∙◌}
+use mathlib.Core.Path.{refl, ◌∙◌}
 use native.Mathlib.Omega.{arith}
 use Rattle.sheet.proofs.Shaped.{shaped}
 use Rattle.gather.proofs.Closing.{newly_direct, closes_faulty, closes_refused, closes_opened, style_one, direct_origin, direct_over, direct_fine}
@@ -7,7 +7,7 @@ use borrow.Author.Rules.{rules}
 use Rattle.closing.proofs.held.take_direct.Goals as goal
 
 pub returns-then-origin-gt7 : goal.returns-then-origin-gt7
-returns-then-origin-gt7 c = closes_faulty c.args.sheet.now _ _ c.requires.sound c.requires.sheet_value _ _ _ (direct_origin c.args.sheet.now _ _ c.requires.sound c.args.origin c.if-origin-gt7.true)
+returns-then-origin-gt7 c = closes_faulty c.args.sheet.now _ _ c.requires.sound c.requires.sheet_value _ _ _ (direct_origin c.args.sheet.now _ _ c.requires.sound c.args.origin c.if-origin-gt7.true) refl
 
 pub overflow_add-wide : goal.overflow_add-wide
 overflow_add-wide c =
@@ -18,7 +18,7 @@ overflow_add-wide c =
 
 pub returns-then-wide-open_styles-ge64 : goal.returns-then-wide-open_styles-ge64
 returns-then-wide-open_styles-ge64 c =
-    closes_faulty c.args.sheet.now _ _ c.requires.sound c.requires.sheet_value _ _ _ (direct_over c.args.sheet.now _ _ c.requires.sound c.args.origin c.if-origin-gt7.false _ _ (c.wide.ensures ∙ c.word.ensures) c.open_styles.ensures c.if-wide-open_styles-ge64.true)
+    closes_faulty c.args.sheet.now _ _ c.requires.sound c.requires.sheet_value _ _ _ (direct_over c.args.sheet.now _ _ c.requires.sound c.args.origin c.if-origin-gt7.false _ _ (c.wide.ensures ∙ c.word.ensures) c.open_styles.ensures c.if-wide-open_styles-ge64.true) refl
 
 pub returns-in_err-close : goal.returns-in_err-close
 returns-in_err-close c =

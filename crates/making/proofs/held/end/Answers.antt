@@ -1,5 +1,4 @@
-use borrow.Author.Rules.{rules}
-use mathlib.Core.Path.{◌≡◌, refl}
+use mathlib.Core.Path.{refl}
 use Rattle.making.proofs.held.end.Goals as goal
 
 -- `making::held::end` meets its contract. Assumes nothing.

@@ -20,4 +20,4 @@ returns-then-item-eq7 c = adds_entry _ _ _ _ _ _ c.if-item-eq7.true c.take_entry
 
 pub returns : goal.returns
 returns c =
-    adds_misplaced _ _ _ _ _ c.requires.sound c.if-item-eq4.false c.if-item-eq5.false c.if-item-eq6.false c.if-item-eq7.false refl
+    adds_misplaced _ _ _ _ _ c.requires.sound c.if-item-eq4.false c.if-item-eq5.false c.if-item-eq6.false c.if-item-eq7.false refl refl refl
