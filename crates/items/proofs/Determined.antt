@@ -89,8 +89,10 @@ pub record Halved (words before : List ℕ) (r : ℕ) (after : List ℕ) : Type 
 
 pub halves_determined : {words before : List ℕ} {r r' : ℕ} {after after' : List ℕ} → Halved words before r after → Halved words before r' after' → (r ≡ r') × (after ≡ after')
 halves_determined {r = r} {r' = r'} {after = after} {after' = after'} p q =
-    let e = p.count ∙ sym q.count in
-    (e, ext_get_or 0 after after' (p.as_long ∙ sym q.as_long) (λ k h. elim (dec_lt k r) [
-      | yes m ↦ p.halved k m ∙ sym (q.halved k (omega (arith, e, m)))
-      | no m ↦ p.kept k (omega (arith, m)) ∙ sym (q.kept k (omega (arith, e, m)))
-    ]))
+    let e = p.count ∙ sym q.count in (
+      e,
+      ext_get_or 0 after after' (p.as_long ∙ sym q.as_long) (λ k h. elim (dec_lt k r) [
+        | yes m ↦ p.halved k m ∙ sym (q.halved k (omega (arith, e, m)))
+        | no m ↦ p.kept k (omega (arith, m)) ∙ sym (q.kept k (omega (arith, e, m)))
+      ]),
+    )
