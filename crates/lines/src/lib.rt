@@ -16,11 +16,9 @@ pub fn text(out: &mut [u8], at: usize, words: &[u8]) -> usize
     if out.len() - at < words.len() {
         return at;
     }
-    // A text is mostly a byte or two: a loop, since `copy_from_slice` calls `memmove`, which takes longer.
-    for (i, word) in words.iter().enumerate() {
-        out[at + i] = *word;
-    }
-    at + words.len()
+    let next = at + words.len();
+    out[at..next].copy_from_slice(words);
+    next
 }
 
 // A number in decimal, in as few digits as hold it.
