@@ -23,18 +23,18 @@ pub fn put(words: &mut [u32], at: usize, value: u32)
     }
 }
 
-// What `list` has, stored one after the other from `at` on. By a loop: for `copy_from_slice` an archive for C needs `memmove` from outside.
+// What `list` has, stored one after the other from `at` on. By place: a loop over `enumerate` takes longer, and for `copy_from_slice` an archive for C needs `memmove` from outside.
 pub fn copy_into<T: Copy>(words: &mut [T], at: usize, list: &[T])
     ensures { words.new ≡ sets words.old at list.now }
 {
-    for (j, x) in list.iter().enumerate() {
+    for j in 0..list.len() {
         if words.len() <= at {
             return;
         }
         if words.len() - at <= j {
             return;
         }
-        words[at + j] = *x;
+        words[at + j] = list[j];
     }
 }
 
@@ -42,13 +42,13 @@ pub fn copy_into<T: Copy>(words: &mut [T], at: usize, list: &[T])
 pub fn widen_into(words: &mut [u32], at: usize, list: &[u16])
     ensures { words.new ≡ sets words.old at list.now }
 {
-    for (j, half) in list.iter().enumerate() {
+    for j in 0..list.len() {
         if words.len() <= at {
             return;
         }
         if words.len() - at <= j {
             return;
         }
-        words[at + j] = u32::from(*half);
+        words[at + j] = u32::from(list[j]);
     }
 }

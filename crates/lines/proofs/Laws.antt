@@ -1,12 +1,11 @@
 -- The ways through the functions, as laws. Assumes nothing.
-use mathlib.Core.Path.{◌≡◌, refl, sym, ap, ◌∙◌}
-use mathlib.Core.List.{List, ◌++◌, append_assoc}
-use borrow.Rule.Slice.PartMut.{put_mid}
-use Prim.Native.Nat.{ℕ, suc, ◌+◌, ◌-◌, ◌*◌, ◌/◌, ◌≤◌, ◌<◌, min}
+use mathlib.Core.Path.{◌≡◌, refl, sym, ◌∙◌}
+use mathlib.Core.List.{List}
+use Prim.Native.Nat.{ℕ, suc, ◌+◌, ◌*◌, ◌/◌, ◌≤◌, ◌<◌, min}
 use native.Mathlib.Numerals.{add-one}
 use native.Mathlib.Omega.{arith}
 use lib.ListN.{length, get_or, take, drop, set, length-set, get_or-eq_default, take-append-drop}
-use lib.Seq.{sets, sets-eq, take-suc-set, drop-set-lt, drop-drop}
+use lib.Seq.{sets, take-suc-set, drop-set-lt, drop-drop}
 use borrow.Author.Tests.{le-leb, lt-leb}
 use Rattle.io.specs.Digits.{last_digits, IsDigitCount}
 use Rattle.std.specs.Ordering.{ord_min, nat_cmp}
@@ -77,13 +76,6 @@ module _ (words before : List ℕ) (at : ℕ) where
         next = rw (le-leb (at + length words) (length before) h);
         whole = rw (le-leb (at + length words) (length before) h) e;
       }
-
--- a text written over a part of a buffer
-pub laid_over : (words before part : List ℕ) (at : ℕ) → at + length words ≤ length before → part ≡ words → Laid words before at (at + length words) (put_mid at (at + length words - at) before part)
-laid_over words before part at h e = laid_is words before at _ h (over (at + length words - at) (omega arith))
-  where
-    over : (k : ℕ) → k ≡ length words → put_mid at k before part ≡ sets before at words
-    over k q = rw (sets-eq words before at h, e, q) (ap (λ l. take at before ++ (words ++ l)) (drop-drop (length words) at before) ∙ sym (append_assoc (take at before) words _))
 
 pub laid_number : (n k : ℕ) (text before : List ℕ) (at r : ℕ) (after : List ℕ) → IsDigitCount 10 1 n k → text ≡ last_digits 10 k n → Laid text before at r after → LaidNumber n before at r after
 laid_number n k text before at r after f e l = record { count = k; fewest = f; laid = rw e at l }

@@ -6,7 +6,7 @@ ghost use Rattle.lines.specs.Text.{Laid, LaidNumber, word_at, Read};
 
 use std::cmp::min;
 
-// `words` from `at` on, or nothing where it has no room; where the next text goes.
+// `words` from `at` on, or nothing where it has no room; where the next text goes. By a loop: most texts are a byte or two, and `copy_from_slice` calls `memmove` for each.
 pub fn text(out: &mut [u8], at: usize, words: &[u8]) -> usize
     ensures { Laid words.now out.old at result out.new }
 {
@@ -16,9 +16,10 @@ pub fn text(out: &mut [u8], at: usize, words: &[u8]) -> usize
     if out.len() - at < words.len() {
         return at;
     }
-    let next = at + words.len();
-    out[at..next].copy_from_slice(words);
-    next
+    for i in 0..words.len() {
+        out[at + i] = words[i];
+    }
+    at + words.len()
 }
 
 // A number in decimal, in as few digits as hold it.

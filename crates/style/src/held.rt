@@ -1,7 +1,6 @@
 // A style's checks one by one, and look-ups for callers that hold it to its sizes and order already.
 // A count stands beside its list: 2 refuses one past it.
-ghost use Rattle.std.specs.Prelude.{◌≡◌, false, [], ◌∷◌, ◌≤◌, length, take, replicate, Ok, Some};
-ghost use Rattle.std.proofs.lemmas.List.Edits.{sets};
+ghost use Rattle.std.specs.Prelude.{◌≡◌, false, [], ◌∷◌, ◌≤◌, length, take, Ok, Some};
 ghost use Rattle.lent.specs.Refusals.{verdict_of};
 ghost use Rattle.style.specs.Checks.{entries_over, kinds_over, properties_off, style_verdict};
 ghost use Rattle.style.specs.Looking.{kind_told, plain_told, resource_told, place_of, plain_kind, resource_kind};
@@ -35,21 +34,13 @@ pub fn kinds_over(kinds: &[u32], n: usize) -> bool
     !at_most(&kinds[0..n], 3)
 }
 
-// The first n property ids, as words; 0 past them.
-fn ids(properties: &[u16], n: usize) -> [u32; 32]
-    requires { n ≤ length properties.now }
-    ensures { result ≡ sets (replicate 32 0) 0 (take n properties.now) }
-{
-    let mut words = [0u32; 32];
-    widen_into(&mut words, 0, &properties[0..n]);
-    words
-}
-
+// The property ids are made words here and in `place`: an array that a function hands back would be copied once more.
 pub fn properties_off(properties: &[u16], n: usize) -> bool
     requires { (n ≤ 32) × (n ≤ length properties.now) }
     ensures { result ≡ properties_off properties.now n }
 {
-    let words = ids(properties, n);
+    let mut words = [0u32; 32];
+    widen_into(&mut words, 0, &properties[0..n]);
     !is_ascending(&words[0..n])
 }
 
@@ -80,7 +71,8 @@ pub fn place(properties: &[u16], n: usize, property: u16) -> usize
     requires n_value { properties_off properties.now n ≡ false }
     ensures { result ≡ place_of property (take n properties.now) }
 {
-    let words = ids(properties, n);
+    let mut words = [0u32; 32];
+    widen_into(&mut words, 0, &properties[0..n]);
     let at = lower_bound(&words[0..n], property as u32);
     if at < n {
         if words[at] == property as u32 {
