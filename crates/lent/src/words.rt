@@ -23,7 +23,8 @@ pub fn put(words: &mut [u32], at: usize, value: u32)
     }
 }
 
-// What `list` has, stored one after the other from `at` on. By place: a loop over `enumerate` takes longer, and for `copy_from_slice` an archive for C needs `memmove` from outside.
+// What `list` has, stored one after the other from `at` on.
+// By place: a loop over `enumerate` takes longer, and for `copy_from_slice` an archive for C needs `memmove` from outside.
 pub fn copy_into<T: Copy>(words: &mut [T], at: usize, list: &[T])
     ensures { words.new ≡ sets words.old at list.now }
 {

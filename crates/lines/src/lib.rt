@@ -6,7 +6,8 @@ ghost use Rattle.lines.specs.Text.{Laid, LaidNumber, word_at, Read};
 
 use std::cmp::min;
 
-// `words` from `at` on, or nothing where it has no room; where the next text goes. By a loop: most texts that are laid are a byte or two, for which `memmove`, called by `copy_from_slice`, takes longer.
+// `words` from `at` on, or nothing where it has no room; where the next text goes.
+// By a loop: most texts that are laid are a byte or two, for which `memmove`, called by `copy_from_slice`, takes longer.
 pub fn text(out: &mut [u8], at: usize, words: &[u8]) -> usize
     ensures { Laid words.now out.old at result out.new }
 {

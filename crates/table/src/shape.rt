@@ -184,7 +184,8 @@ pub fn subject_place(k: u32) -> usize
     wide(layout::SUBJECT) + wide(layout::TRANSITION_WORDS) * wide(k)
 }
 
-// Whether the ids from word `at` on ascend, as many as the word at `count` says. By `part` and not by `selector::held::ids`, which gives that list: `is_table` takes up to a quarter less time so.
+// Whether the ids from word `at` on ascend, as many as the word at `count` says.
+// By `part` and not by `selector::held::ids`, which gives that list: `is_table` takes up to a quarter less time so.
 fn ids_ascend(words: &[u32], at: usize, count: usize) -> bool
     requires { at < 1000000000000 }
     ensures { result ≡ ascends (words_from words.now at (get_or words.now count 0)) }
